@@ -3,10 +3,10 @@ use Rattle.std.proofs.Common.{◌≡◌, sym, ◌∙◌, ap, ℕ, zero, suc, ◌
 use Rattle.std.specs.Prelude.{slice_get, option_map}
 use Rattle.std.proofs.lemmas.List.{length-map}
 use Rattle.std.proofs.lemmas.Option.{same_Some}
-use Rattle.transit_base.specs.declared.numbers.RiderId.{RiderId}
 use Rattle.feed_rows.specs.FeedRows.{FeedRows}
 use Rattle.feed_rows.specs.Journeys.{facts_at}
 use Rattle.feed_rows.specs.Legs.{leg_facts, legs_of}
+use Rattle.feed_rows.specs.declared.journeys.Buyer.{Buyer}
 use Rattle.feed_rows.specs.declared.journeys.LegFacts.{LegFacts}
 use Rattle.feed_rows.specs.declared.journeys.Ride.{Ride}
 use Rattle.plain_laws.specs.Plain.{collect_below}
@@ -55,7 +55,7 @@ legs_many feed named legs is =
     tells.length_is ∙ length-map named (λ (n : NamedRide). n.ride)
 
 -- the least price of legs is that of their rides
-pub least_of_legs : (feed : FeedRows) (rides : List Ride) (legs : List LegFacts) (rider : Option RiderId) (priced : Option Priced)
-    → legs_of feed rides ≡ Some legs → IsLeastOrNone feed legs rider priced → IsLeastOfRides feed rides rider priced
-least_of_legs feed rides legs rider None is least = uncovered_rides feed rides legs rider is least
-least_of_legs feed rides legs rider (Some priced) is least = least_price_of_rides feed rides legs rider is priced.choice priced.sum.0 least
+pub least_of_legs : (feed : FeedRows) (rides : List Ride) (legs : List LegFacts) (buyer : Buyer) (priced : Option Priced)
+    → legs_of feed rides ≡ Some legs → IsLeastOrNone feed legs buyer priced → IsLeastOfRides feed rides buyer priced
+least_of_legs feed rides legs buyer None is least = uncovered_rides feed rides legs buyer is least
+least_of_legs feed rides legs buyer (Some priced) is least = least_price_of_rides feed rides legs buyer is priced.choice priced.sum.0 least

@@ -12,10 +12,10 @@ use Rattle.command_answers.specs.declared.status.Status.TheVariants as status
 -- the rides of a query that words name are joined, and its lines are due
 pub price_due : (timetable feed : FeedRows) (request : PriceRequest) (query : PriceQuery) (told : Status)
     (text lines : List (List ℕ)) → timetable ≡ feed → price_query_of timetable request ≡ Ok query
-    → told ≡ status.Answered → text ≡ lines → ArePriceLines feed query.rides query.rider lines
+    → told ≡ status.Answered → text ≡ lines → ArePriceLines feed query.rides query.buyer lines
     → IsDue (task_by (Task.Prices feed) (price_query_of feed request)) told text
 price_due timetable feed request query told text lines same named answered whole are =
     let over_feed = subst (λ f. price_query_of f request ≡ Ok query) same named in
     let joined = priced_rides_join feed request query over_feed in
     subst (λ q. IsDue (task_by (Task.Prices feed) q) told text) (sym over_feed)
-    (answered, (joined, subst (ArePriceLines feed query.rides query.rider) (sym whole) are))
+    (answered, (joined, subst (ArePriceLines feed query.rides query.buyer) (sym whole) are))

@@ -1,31 +1,16 @@
 -- What a word must name to name a ride.
-use Rattle.std.proofs.Common.{◌≡◌, refl, sym, ◌∙◌, ap, ℕ, ◌<◌, Bool, true, false, List, length, Option, Some, None}
+use Rattle.std.proofs.Common.{◌≡◌, refl, sym, ◌∙◌, Bool, true, false, Option, Some, None}
 use Rattle.std.specs.Prelude.{if◌then◌else◌, slice_get, option_map, option_and_then}
-use Rattle.std.proofs.lemmas.Option.{none-some, same_Some}
-use Rattle.transit_base.specs.declared.numbers.TripId.{TripId}
+use Rattle.std.proofs.lemmas.Option.{none-some}
 use Rattle.feed_rows.specs.FeedRows.{FeedRows}
 use Rattle.feed_rows.specs.Calls.{calls_of}
-use Rattle.feed_rows.specs.Queries.{find_trip, has_trip_id}
 use Rattle.feed_rows.specs.Rides.{is_ride, ride_facts, facts_between}
 use Rattle.feed_rows.specs.declared.journeys.Call.{Call}
 use Rattle.feed_rows.specs.declared.journeys.Ride.{Ride}
 use Rattle.feed_rows.specs.declared.journeys.RideFacts.{RideFacts}
-use Rattle.plain_laws.specs.Plain.{find_below, when}
-use Rattle.plain_laws.proofs.Laws.{find_below_tells, filled_and-true}
+use Rattle.plain_laws.specs.Plain.{when}
+use Rattle.plain_laws.proofs.Laws.{filled_and-true}
 use Rattle.feed_laws.proofs.RideLaws.{is_ride_tells}
-
--- a trip that is found is one of the feed
-pub trip_within : (feed : FeedRows) (id : List ℕ) (trip : TripId) → find_trip feed id ≡ Some trip → trip.0 < length feed.trips
-trip_within feed id trip is = by (find_below (length feed.trips) (has_trip_id feed id)) refl is
-  where
-    by : (o : Option ℕ) → find_below (length feed.trips) (has_trip_id feed id) ≡ o
-        → option_map (λ i. record { 0 = i }) o ≡ Some trip → trip.0 < length feed.trips
-    by None found e = absurd (none-some trip e)
-    by (Some i) found e =
-        let first = find_below_tells (has_trip_id feed id) (length feed.trips) i found in
-        let same : record { 0 = i } ≡ trip = same_Some (record { 0 = i }) trip e in
-        let number : i ≡ trip.0 = ap (λ (t : TripId). t.0) same in
-        rw (← number) first.within
 
 if_some : {X : Type 0} (b : Bool) (o : Option X) (x : X) → (if b then o else None) ≡ Some x → b ≡ true
 if_some true o x e = refl

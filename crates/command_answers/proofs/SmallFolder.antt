@@ -5,6 +5,7 @@ use Rattle.feed_files.specs.declared.names.FileName.{FileName}
 use Rattle.feed_files.specs.declared.names.FileName.TheVariants as file
 use Rattle.feed_files.specs.HeldFiles.{HeldFile}
 use Rattle.feed_rows.specs.FeedRows.{FeedRows}
+use Rattle.feed_rows.specs.declared.journeys.Buyer.{Buyer}
 use Rattle.feed_rows.specs.declared.journeys.Query.{Query}
 use Rattle.feed_rows.specs.declared.journeys.Ride.{Ride}
 use Rattle.feed_faults.specs.AcceptedFeed.{feed_of}
@@ -90,6 +91,10 @@ rows_of_files = refl
 abbrev pub on_the_day : ℕ → ℕ
 on_the_day seconds = 20241 * 86400 + seconds
 
+-- who buys without a rider category
+abbrev pub no_category : Buyer
+no_category = record { rider = None }
+
 -- from A to A at 08:00:00, without a ride
 abbrev pub stay : Query
 stay =
@@ -99,7 +104,7 @@ stay =
       departure = record { 0 = pos (on_the_day 28800) };
       rides = 0;
       window = 86400;
-      rider = None;
+      buyer = no_category;
     }
 
 -- the bus from A to B

@@ -1,6 +1,6 @@
 -- Lines that do a task over the folder of one bus, for each command, and lines that don't.
 use Rattle.std.proofs.Common.{◌≡◌, refl, sym, ◌∙◌, ap, subst, ℕ, zero, suc, ◌<◌, Bool, true, false, ◌||◌, ◌==◌, List, [], ◌∷◌, ◌++◌, length, get_or, inl, arith}
-use Rattle.std.specs.Prelude.{if◌then◌else◌, Option, Some, None, ℤ, pos, ◌+ℤ◌, ◌≤ℤ◌, option_map, All, IsTrue, codes}
+use Rattle.std.specs.Prelude.{if◌then◌else◌, Option, Some, ℤ, pos, ◌+ℤ◌, ◌≤ℤ◌, option_map, All, IsTrue, codes}
 use Rattle.std.specs.Fmt.{digits}
 use Rattle.std.proofs.lemmas.Int.{ints}
 use Rattle.std.proofs.lemmas.Bool.{eqb-true}
@@ -32,7 +32,7 @@ use Rattle.feed_rows.specs.GeneratedTexts.{triple_line}
 use Rattle.feed_rows.specs.CommandTexts.{stats_line}
 use Rattle.feed_laws.proofs.StandLaws.{places_of_paid, one_of_paid}
 use Rattle.command_answers.specs.Due.{Task, DoTask}
-use Rattle.command_answers.proofs.SmallFolder.{rows, on_the_day, stay, bus}
+use Rattle.command_answers.proofs.SmallFolder.{rows, no_category, on_the_day, stay, bus}
 
 -- a text with `|` for each tab, as a line with its line feed
 abbrev tabbed : List ℕ → List ℕ
@@ -77,7 +77,7 @@ bus_leg =
     }
 
 -- it is the only one
-only_ticket : (rule product : ℕ) → is_fare_choice rows (bus_leg ∷ []) (ticket rule product) None ≡ true
+only_ticket : (rule product : ℕ) → is_fare_choice rows (bus_leg ∷ []) (ticket rule product) no_category ≡ true
     → ticket 0 0 ≡ ticket rule product
 unfolding is_leg_paid is_fare_choice network_matches area_matches frame_matches rule_matches is_top_priority
     is_selected_rule is_open is_leg_choice
@@ -85,27 +85,27 @@ only_ticket zero zero e = refl
 only_ticket zero (suc p) e = absurd (let no : false ≡ true = e in cc)
 only_ticket (suc r) p e = absurd (let no : false ≡ true = e in cc)
 
-only_choice : (choice : Choice) → is_fare_choice rows (bus_leg ∷ []) choice None ≡ true → ticket 0 0 ≡ choice
+only_choice : (choice : Choice) → is_fare_choice rows (bus_leg ∷ []) choice no_category ≡ true → ticket 0 0 ≡ choice
 only_choice choice e =
-    let one = one_of_paid rows None bus_leg choice e in
+    let one = one_of_paid rows no_category bus_leg choice e in
     let pick = one.0 in
     only_ticket pick.rule.0 pick.product.0
-    (subst (λ (c : Choice). is_fare_choice rows (bus_leg ∷ []) c None ≡ true) one.1 e) ∙ sym one.1
+    (subst (λ (c : Choice). is_fare_choice rows (bus_leg ∷ []) c no_category ≡ true) one.1 e) ∙ sym one.1
 
 its_sum : pos 250 ≡ fare_sum rows (ticket 0 0)
 unfolding transfer_kind starts_chain is_charged amount_of leg_charge change_charge fare_sum
 its_sum = refl
 
 -- so no choice pays less
-least_sum : (other : Choice) (sum : ℤ) → rides_price rows (bus ∷ []) other None ≡ Some sum → pos 250 ≤ℤ sum
+least_sum : (other : Choice) (sum : ℤ) → rides_price rows (bus ∷ []) other no_category ≡ Some sum → pos 250 ≤ℤ sum
 unfolding is_ride ride_facts is_active shifts_of calls_of call_at legs_of leg_facts stop_areas holds_at
 least_sum other sum paid =
-    let both = cond_some (is_fare_choice rows (bus_leg ∷ []) other None) (fare_sum rows other) sum paid in
+    let both = cond_some (is_fare_choice rows (bus_leg ∷ []) other no_category) (fare_sum rows other) sum paid in
     let is : pos 250 ≡ sum = its_sum ∙ ap (λ (c : Choice). fare_sum rows c) (only_choice other both.0) ∙ both.1 in
     omega (arith, ints, is)
 
 -- the lines tell the price of one ride and its ticket
-price_done : DoTask (Task.Prices rows (record { rides = bus ∷ []; rider = None }))
+price_done : DoTask (Task.Prices rows (record { rides = bus ∷ []; buyer = no_category }))
     (tabbed (codes "price|1|2.50|EUR") ∷ tabbed (codes "leg|1|buy|1|1|single||2.50") ∷ [])
 unfolding is_ride ride_facts is_active shifts_of calls_of call_at legs_of leg_facts stop_areas holds_at network_matches
     area_matches frame_matches rule_matches is_top_priority is_selected_rule is_open is_leg_choice is_leg_paid
@@ -161,15 +161,15 @@ same_triple a a' n n' z z' e f g = rw (e, f, g) refl
 
 -- a choice of no leg is empty
 no_leg : (legs : List LegChoice) (places : List (Option ChangeChoice)) →
-    is_fare_choice rows [] (record { legs = legs; changes = places }) None ≡ true
+    is_fare_choice rows [] (record { legs = legs; changes = places }) no_category ≡ true
     → no_choice ≡ record { legs = legs; changes = places }
 unfolding is_fare_choice
 no_leg [] [] e = refl
 no_leg [] (place ∷ places) e =
-    absurd (let no = (places_of_paid rows None [] (record { legs = []; changes = place ∷ places }) e).1 in
+    absurd (let no = (places_of_paid rows no_category [] (record { legs = []; changes = place ∷ places }) e).1 in
     omega (arith, no))
 no_leg (pick ∷ picks) places e =
-    absurd (let no = (places_of_paid rows None [] (record { legs = pick ∷ picks; changes = places }) e).0 in
+    absurd (let no = (places_of_paid rows no_category [] (record { legs = pick ∷ picks; changes = places }) e).0 in
     omega (arith, no))
 
 -- each entry has its triple
@@ -198,9 +198,9 @@ only_entry e is = by e.journey.rides refl
         let arrives : arrival_after rows stay e.journey 0 ≡ Some e.triple.arrival.0 =
         subst (λ (rs : List Ride). arrival_after rows stay e.journey (length rs) ≡ Some e.triple.arrival.0) none
         is.journey.arrives in
-        let price : rides_price rows [] e.choice None ≡ Some e.triple.price.0 =
-        subst (λ (rs : List Ride). rides_price rows rs e.choice None ≡ Some e.triple.price.0) none is.price in
-        let paid = cond_some (is_fare_choice rows [] e.choice None) (fare_sum rows e.choice) e.triple.price.0 price in
+        let price : rides_price rows [] e.choice no_category ≡ Some e.triple.price.0 =
+        subst (λ (rs : List Ride). rides_price rows rs e.choice no_category ≡ Some e.triple.price.0) none is.price in
+        let paid = cond_some (is_fare_choice rows [] e.choice no_category) (fare_sum rows e.choice) e.triple.price.0 price in
         let choice = no_leg e.choice.legs e.choice.changes paid.0 in
         same_triple stay.departure.0 e.triple.arrival.0 0 e.triple.rides (pos 0) e.triple.price.0
         (stays e.journey.first.0 e.journey.last.0 e.triple.arrival.0 first last arrives)

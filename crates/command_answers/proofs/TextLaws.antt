@@ -22,7 +22,7 @@ price_told feed rides choice price = refl
 
 -- lines that do what `price` asks for make a text of the least price of these rides
 pub price_text_of : (feed : FeedRows) (query : PriceQuery) (lines : List (List ℕ)) → DoTask (Task.Prices feed query) lines
-    → IsPriceText feed query.rides query.rider (concat lines)
+    → IsPriceText feed query.rides query.buyer (concat lines)
 price_text_of feed query lines (joined, inl (choice, price, least, are)) =
     (joined, inl (choice, price, least, ap concat are ∙ price_told feed (length query.rides) choice price))
 price_text_of feed query lines (joined, inr (none, are)) =

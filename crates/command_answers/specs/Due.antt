@@ -15,7 +15,7 @@ use Rattle.feed_rows.specs.GeneratedFeed.{generated, generated_plan}
 use Rattle.feed_rows.specs.GeneratedTexts.{AreMinimalTriples}
 use Rattle.feed_rows.specs.RoundTables.{RoundTable, entries_of}
 use Rattle.feed_rows.specs.SoundTable.{IsSoundTable}
-use Rattle.transit_base.specs.declared.numbers.RiderId.{RiderId}
+use Rattle.feed_rows.specs.declared.journeys.Buyer.{Buyer}
 use Rattle.feed_rows.specs.declared.journeys.Ride.{Ride}
 use Rattle.feed_rows.specs.declared.fares.Choice.{Choice}
 use Rattle.feed_rows.specs.declared.fares.Triple.{Triple}
@@ -30,7 +30,7 @@ use Rattle.feed_faults.specs.AcceptedFeed.{feed_of}
 use Rattle.folder_io.specs.FolderCalls.{FolderState}
 use Rattle.folder_io.specs.FileReading.{Gives}
 use Rattle.feed_faults.specs.FirstFault.{first_fault}
-use Rattle.plan_words.specs.Words.{asked_of}
+use Rattle.plan_words.specs.Words.{read_command}
 use Rattle.command_answers.specs.declared.refusal.Refusal.{Refusal}
 use Rattle.command_answers.specs.declared.refusal.Refusal.TheVariants as refusal
 use Rattle.command_answers.specs.declared.status.Status.{Status}
@@ -75,7 +75,7 @@ task_for files (Ok request) = task_over (files_for files request) (first_fault (
 
 -- the task, or what refuses it: first a fault of the words, then one of the files, then one of the names
 abbrev pub due : (FileName → HeldFile) → List (List ℕ) → Result Task Refusal
-due files words = task_for files (asked_of words)
+due files words = task_for files (read_command words)
 
 -- the lines are those of entries that list in order exactly the minimal triples of arrival, rides and price among all
 -- fare-covered journeys of the query, one for each, with such a journey and its tickets; without entry there is no such
@@ -98,12 +98,12 @@ pub record AreTableLines (feed : FeedRows) (query : Query) (lines : List (List �
   pub covers : CoversOffers feed query entries
   pub are_lines : lines ≡ lines_of_entries feed entries ++ stats_line (length table.labels) ∷ []
 
--- the lines are those of a choice of the least price that the rides have for the rider, or tell that no choice pays them
-abbrev pub ArePriceLines : FeedRows → List Ride → Option RiderId → List (List ℕ) → Type 0
-ArePriceLines feed rides rider lines =
-    ((choice : Choice) × (price : ℤ) × IsLeastPrice feed rides rider choice price
+-- the lines are those of a choice of the least price that the rides have for the buyer, or tell that no choice pays them
+abbrev pub ArePriceLines : FeedRows → List Ride → Buyer → List (List ℕ) → Type 0
+ArePriceLines feed rides buyer lines =
+    ((choice : Choice) × (price : ℤ) × IsLeastPrice feed rides buyer choice price
     × (lines ≡ price_lines feed (length rides) choice price))
-    ⊎ (IsUncovered feed rides rider × (lines ≡ uncovered_lines))
+    ⊎ (IsUncovered feed rides buyer × (lines ≡ uncovered_lines))
 
 -- the lines are that of the feed's size and those of exactly the minimal triples of the query, in order; without triple there
 -- is no fare-covered journey of the query
@@ -119,7 +119,7 @@ abbrev pub DoTask : Task → List (List ℕ) → Type 0
 DoTask (Task.Checks feed) lines = lines ≡ check_text feed ∷ []
 DoTask (Task.Plans feed query false) lines = ArePlanLines feed query lines
 DoTask (Task.Plans feed query true) lines = AreTableLines feed query lines
-DoTask (Task.Prices feed query) lines = AreJoinedRides feed query.rides × ArePriceLines feed query.rides query.rider lines
+DoTask (Task.Prices feed query) lines = AreJoinedRides feed query.rides × ArePriceLines feed query.rides query.buyer lines
 DoTask (Task.Generates feed query) lines = AreGenLines feed query lines
 
 -- the answer and the line of a refusal

@@ -1,4 +1,4 @@
--- The rides and the rider that words name over a feed, as contracts see them.
+-- The rides and the buyer that words name over a feed, as contracts see them.
 use Rattle.std.specs.Prelude.{◌≡◌, List, map, All, Some, Result, Err}
 use Rattle.feed_rows.specs.declared.journeys.Ride.{Ride}
 use Rattle.feed_rows.specs.declared.usage.UsageFault.{UsageFault}
@@ -19,8 +19,8 @@ abbrev pub AreKnown : FeedRows → List NamedRide → Type 0
 AreKnown feed named = All (λ (n : NamedRide). ride_facts feed n.ride ≡ Some n.facts) named
 
 -- what is asked for
-abbrev pub query_of : PriceQuery → NamedQuery
-query_of query = record { rides = rides_of query.rides.items; rider = query.rider }
+abbrev pub named_query : PriceQuery → NamedQuery
+named_query query = record { rides = rides_of query.rides.items; buyer = query.buyer }
 
 -- the fault is that of the names; of want of memory nothing is said
 abbrev pub IsErrorOf : {X : Type 0} → Result X UsageFault → WordsError → Type 0

@@ -11,7 +11,7 @@ mod ride_prices;
 mod status;
 
 pub use lines::{stats_line_of, write_text};
-pub use outcome::{Outcome, Stop, answered, check_outcome, refused};
+pub use outcome::{Failure, Outcome, answered, check_outcome, refused};
 pub use prices::price_outcome;
 pub use query::query_of;
 pub use refusal::Refusal;

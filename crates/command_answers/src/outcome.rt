@@ -20,21 +20,21 @@ pub struct Outcome {
 
 /// Why nothing comes of a command.
 #[derive(Clone, Copy)]
-pub enum Stop {
+pub enum Failure {
     /// A call of the folder failed.
     ReadFault,
     /// Want of memory.
     NoMemory,
 }
 
-impl From<AllocError> for Stop {
+impl From<AllocError> for Failure {
     ghost use Rattle.std.specs.Prelude.{◌≡◌};
-    ghost use Rattle.command_answers.specs.declared.outcome.Stop.TheVariants as stop;
+    ghost use Rattle.command_answers.specs.declared.outcome.Failure.TheVariants as failure;
 
-    ghost from_gives = { λ e f. f ≡ stop.NoMemory };
+    ghost from_gives = { λ e f. f ≡ failure.NoMemory };
 
-    fn from(_error: AllocError) -> Stop {
-        Stop::NoMemory
+    fn from(_error: AllocError) -> Failure {
+        Failure::NoMemory
     }
 }
 

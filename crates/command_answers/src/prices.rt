@@ -1,5 +1,6 @@
 //! The answer of a price.
 ghost use Rattle.std.specs.Prelude.{◌≤◌, length, IfOk};
+ghost use Rattle.feed_rows.specs.Limits.{most_rides};
 ghost use Rattle.feed_rows.specs.PriceQueries.{price_query_of};
 ghost use Rattle.command_answers.specs.Due.{Task, task_by, ArePriceLines};
 ghost use Rattle.command_answers.specs.Outcomes.{IsOutcome};
@@ -10,21 +11,21 @@ ghost use Rattle.plan_words.specs.Rides.{AreUsualRides};
 use crate::outcome::{Outcome, answered, refused};
 use crate::refusal::Refusal;
 use crate::ride_prices::{PriceQuery, price_of, price_query_of};
-use feed_rows::Feed;
 use feed_timetable::Timetable;
 use plan_words::{PriceWords, WordsError};
 use std::alloc::{AllocError, Global};
 use ticket_explain::{Text, price_lines_of, uncovered_lines_of};
 
 // The lines of the least price of the rides.
-fn price_text(alloc: Global, feed: &Feed, query: &PriceQuery) -> Result<Text, AllocError>
-    requires known { AreKnown feed.now query.now.rides.items }
-    requires few { length query.now.rides.items ≤ 8 }
-    ensures { IfOk result (ArePriceLines feed.now (rides_of query.now.rides.items) query.now.rider) }
+fn price_text(alloc: Global, timetable: &Timetable, query: &PriceQuery) -> Result<Text, AllocError>
+    requires known { AreKnown timetable.now query.now.rides.items }
+    requires few { length query.now.rides.items ≤ most_rides }
+    ensures { IfOk result (ArePriceLines timetable.now (rides_of query.now.rides.items) query.now.buyer) }
 {
-    let Some(priced) = price_of(alloc, feed, query)? else {
+    let Some(priced) = price_of(alloc, timetable, query)? else {
         return uncovered_lines_of(alloc);
     };
+    let feed = timetable.feed();
     price_lines_of(alloc, feed, query.rides.len(), &priced.choice, priced.sum)
 }
 
@@ -42,7 +43,7 @@ pub fn price_outcome(
 {
     match price_query_of(alloc, timetable, words) {
         Ok(query) => {
-            let text = price_text(alloc, timetable.feed(), &query)?;
+            let text = price_text(alloc, timetable, &query)?;
             Ok(answered(text))
         }
         Err(WordsError::Usage(fault)) => refused(alloc, Refusal::Usage(fault)),

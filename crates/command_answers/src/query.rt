@@ -6,7 +6,7 @@ ghost use Rattle.plan_rides.specs.InTime.{IsUsualQuery};
 ghost use Rattle.plan_words.specs.Request.{request_of, IsUsualPlan};
 
 use fare_products::chosen_rider;
-use feed_rows::{Feed, PLATFORM, Query, STATION, StopWord, UsageFault};
+use feed_rows::{Buyer, Feed, PLATFORM, Query, STATION, StopWord, UsageFault};
 use feed_timetable::Timetable;
 use plan_words::PlanWords;
 use transit_base::StopId;
@@ -50,6 +50,6 @@ pub fn query_of(timetable: &Timetable, plan: &PlanWords) -> Result<Query, UsageF
         departure: plan.departure,
         rides: plan.rides,
         window: plan.window,
-        rider,
+        buyer: Buyer { rider },
     })
 }

@@ -1,4 +1,4 @@
-//! The rides that the words of `price` name over a feed, the rider for whom they are priced, and their least price.
+//! The rides that the words of `price` name over a feed, the buyer for whom they are priced, and their least price.
 
 mod prices;
 mod query;

@@ -17,16 +17,11 @@ use Rattle.feed_rows.specs.FeedRows.{FeedRows}
 use Rattle.feed_rows.specs.Legs.{frames_at, holds_at, is_within}
 use Rattle.feed_rows.specs.ServiceDays.{is_active}
 use Rattle.feed_laws.proofs.MomentLaws.{civil_day-moment_at, time_of_day-moment_at}
-use Rattle.plain_laws.proofs.Laws.{All-from, Contains-cons_first, Contains-cons_later, picks_below-same, slice_get-new_item, slice_get-old_item}
+use Rattle.fare_timeframes.proofs.CutLaws.{any_of_members}
+use Rattle.plain_laws.proofs.Laws.{All-from, picks_below-same, slice_get-new_item, slice_get-old_item}
 use Rattle.fare_audit.specs.declared.days.Reach.{Reach}
 use Rattle.fare_audit.specs.declared.days.Reach.TheVariants.{OneDay, TwoDays, Longer}
 use Rattle.fare_audit.specs.Days.{AreActiveDays, AreAlike, AreDaysBelow, AreDaysLike, AreKinds, ArePicked, HaveSameServices, IsWithin, days_at}
-
--- a test of some item depends on what it is of the members
-pub any_of_members : {X : Type 0} (p q : X → Bool) (xs : List X) → ((x : X) → Contains xs x → p x ≡ q x) → list_any p xs ≡ list_any q xs
-any_of_members p q [] same = refl
-any_of_members p q (x ∷ xs) same =
-    rw (same x (Contains-cons_first x xs), any_of_members p q xs (λ y at. same y (Contains-cons_later x xs y at))) refl
 
 module _ (feed : FeedRows) where
   -- the service of the row is active on both days or on neither

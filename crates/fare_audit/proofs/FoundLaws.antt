@@ -6,7 +6,7 @@ use Rattle.std.proofs.lemmas.Bool.{and_parts, and_from, false≢true}
 use Rattle.std.proofs.lemmas.Option.{same_Some, slice_get_cases, slice_get_within}
 use Rattle.transit_base.specs.declared.numbers.ProductId.{ProductId}
 use Rattle.transit_base.specs.declared.numbers.ProductRowId.{ProductRowId}
-use Rattle.transit_base.specs.declared.numbers.RiderId.{RiderId}
+use Rattle.feed_rows.specs.declared.journeys.Buyer.{Buyer}
 use Rattle.transit_base.specs.declared.numbers.NetworkId.{NetworkId}
 use Rattle.transit_base.specs.declared.numbers.RuleId.{RuleId}
 use Rattle.transit_base.specs.declared.numbers.StopId.{StopId}
@@ -26,19 +26,20 @@ use Rattle.plain_laws.proofs.Laws.{Contains-picks_below, Contains-slice_get, any
 use Rattle.fare_audit.specs.declared.ends.End.{End}
 use Rattle.fare_audit.specs.declared.found.Found.{Found}
 use Rattle.fare_audit.specs.declared.found.Walk.{Walk}
-use Rattle.fare_audit.specs.declared.verdicts.Verdict.{Verdict}
-use Rattle.fare_audit.specs.Found.{AuditOf, AreLike, AreNoted, CoversEnds, CoversPair, GrowsTo, HasLike, IsAudited, IsCovered, IsFound, IsGap, IsRight, IsUsed, MarksAll, StandsFor, is_marked, opens_rule, selects}
+use Rattle.ride_cache.specs.Kept.{Holds, HoldsFor}
+use Rattle.fare_timeframes.specs.Cuts.{AreLike}
+use Rattle.fare_audit.specs.Found.{AuditOf, AreNoted, CoversEnds, CoversPair, GrowsTo, HasLike, IsAudited, IsCovered, IsFound, IsGap, IsRight, IsUsed, MarksAll, StandsFor, is_marked, opens_rule, selects}
 use Rattle.fare_audit.proofs.LikeLaws.{option_like, selects_like}
 
 -- a product has a least open row where it has an open one
-pub least_is_some : (feed : FeedRows) (product : ProductId) (rider : Option RiderId) →
-    is_some (least_open_row feed product rider) ≡ list_any (is_open product rider) feed.products
-least_is_some feed product rider = step (least_open_row feed product rider) refl
+pub least_is_some : (feed : FeedRows) (product : ProductId) (buyer : Buyer) →
+    is_some (least_open_row feed product buyer) ≡ list_any (is_open product buyer) feed.products
+least_is_some feed product buyer = step (least_open_row feed product buyer) refl
   where
-    step : (o : Option ProductRowId) → least_open_row feed product rider ≡ o → is_some o ≡ list_any (is_open product rider) feed.products
-    step None e = sym (least_open_row-none feed product rider e)
+    step : (o : Option ProductRowId) → least_open_row feed product buyer ≡ o → is_some o ≡ list_any (is_open product buyer) feed.products
+    step None e = sym (least_open_row-none feed product buyer e)
     step (Some id) e =
-        let found = least_open_row-some feed product rider id e in
+        let found = least_open_row-some feed product buyer id e in
         sym (any_passes _ feed.products found.row (Contains-slice_get _ id.0 _ found.is) found.opens)
 
 abbrev rule_id : ℕ → RuleId
@@ -46,24 +47,24 @@ rule_id i = record { 0 = i }
 
 -- some rule that the leg selects opens exactly where the leg has an option
 pub any_selected : (audit : AuditOf) (leg : LegFacts) →
-    list_any (opens_rule audit) (selected_rules audit.feed leg) ≡ has_option audit.feed audit.rider leg
+    list_any (opens_rule audit) (selected_rules audit.feed leg) ≡ has_option audit.feed audit.buyer leg
 unfolding has_option
 any_selected audit leg = same_test _ _ there back
   where
     there : list_any (opens_rule audit) (selected_rules audit.feed leg) ≡ true →
-        list_any (λ rule. is_selected_rule audit.feed leg rule && list_any (is_open rule.product audit.rider) audit.feed.products) audit.feed.leg_rules ≡ true
+        list_any (λ rule. is_selected_rule audit.feed leg rule && list_any (is_open rule.product audit.buyer) audit.feed.products) audit.feed.leg_rules ≡ true
     there e =
         let found = list_any_tells (opens_rule audit) (selected_rules audit.feed leg) e in
         let p = picks_below-tells (length audit.feed.leg_rules) (λ i. at_and audit.feed.leg_rules i (is_selected_rule audit.feed leg)) rule_id found.0 found.1 in
         let selected = filled_and-true (slice_get audit.feed.leg_rules p.number) (is_selected_rule audit.feed leg) p.passes in
         let same : p.number ≡ found.0.0 = ap (λ (r : RuleId). r.0) p.is in
-        let opening = filled_and-true (slice_get audit.feed.leg_rules found.0.0) (λ (row : LegRuleRow). list_any (is_open row.product audit.rider) audit.feed.products) found.2 in
+        let opening = filled_and-true (slice_get audit.feed.leg_rules found.0.0) (λ (row : LegRuleRow). list_any (is_open row.product audit.buyer) audit.feed.products) found.2 in
         let one : selected.value ≡ opening.value = same_Some _ _ (sym selected.is ∙ ap (slice_get audit.feed.leg_rules) same ∙ opening.is) in
-        let P : LegRuleRow → Type 0 = λ row. list_any (is_open row.product audit.rider) audit.feed.products ≡ true in
+        let P : LegRuleRow → Type 0 = λ row. list_any (is_open row.product audit.buyer) audit.feed.products ≡ true in
         any_passes _ audit.feed.leg_rules selected.value (Contains-slice_get _ p.number _ selected.is)
         (and_from _ _ selected.passes (subst P (sym one) opening.passes))
 
-    back : list_any (λ rule. is_selected_rule audit.feed leg rule && list_any (is_open rule.product audit.rider) audit.feed.products) audit.feed.leg_rules ≡ true →
+    back : list_any (λ rule. is_selected_rule audit.feed leg rule && list_any (is_open rule.product audit.buyer) audit.feed.products) audit.feed.leg_rules ≡ true →
         list_any (opens_rule audit) (selected_rules audit.feed leg) ≡ true
     back e =
         let found = list_any_tells _ audit.feed.leg_rules e in
@@ -72,7 +73,7 @@ any_selected audit leg = same_test _ _ there back
         let at = ap (λ o. filled_and o (is_selected_rule audit.feed leg)) place.1 ∙ both.0 in
         any_passes (opens_rule audit) (selected_rules audit.feed leg) (record { 0 = place.0 })
         (Contains-picks_below _ _ _ place.0 (slice_get_within _ place.0 _ place.1) at)
-        (ap (λ o. filled_and o (λ (row : LegRuleRow). list_any (is_open row.product audit.rider) audit.feed.products)) place.1 ∙ both.1)
+        (ap (λ o. filled_and o (λ (row : LegRuleRow). list_any (is_open row.product audit.buyer) audit.feed.products)) place.1 ∙ both.1)
 
 -- a rule that is among the selected ones is selected, and the other way
 pub selected_among : (feed : FeedRows) (ride : RideFacts) (i : ℕ) → selects feed ride i ≡ true →
@@ -138,7 +139,7 @@ pub covered_like : (audit : AuditOf) (found : Found) (a b : RideFacts) → AreLi
 covered_like audit found a b like from to is =
     record {
       unpaid = λ e.
-          let here = is.unpaid (option_like audit.feed a b like audit.rider ∙ e) in
+          let here = is.unpaid (option_like audit.feed a b like audit.buyer ∙ e) in
           let P : Pair → Type 0 = Contains found.gaps.items in
           subst P (pairs from to) here;
       rules = λ i e. is.rules i (selects_like audit.feed a b like i ∙ e);
@@ -174,8 +175,8 @@ marks_selected feed ride old new many marks i e =
 -- what was found stays true with the judgement of one ride more
 pub judged_found : (audit : AuditOf) (old new : Found) (ride : RideFacts) (has : Bool) → IsFound audit old → HasLike audit ride →
     MarksAll (selected_rules audit.feed (leg_facts audit.feed ride)) old.used.items new.used.items →
-    has ≡ has_option audit.feed audit.rider (leg_facts audit.feed ride) → new.gaps ≡ old.gaps → new.noted ≡ old.noted → new.walked ≡ old.walked →
-    ((v : Verdict) → Contains new.verdicts.items (Some v) → Contains old.verdicts.items (Some v) ⊎ (record { ride = ride; has_option = has } ≡ v)) →
+    has ≡ has_option audit.feed audit.buyer (leg_facts audit.feed ride) → new.gaps ≡ old.gaps → new.noted ≡ old.noted → new.walked ≡ old.walked →
+    ((other : RideFacts) (kept : Bool) → HoldsFor new.verdicts other kept → HoldsFor old.verdicts other kept ⊎ ((ride ≡ other) × (has ≡ kept))) →
     IsFound audit new
 judged_found audit old new ride has were like marks value gaps noted walked verdicts =
     record {
@@ -187,19 +188,21 @@ judged_found audit old new ride has were like marks value gaps noted walked verd
           (marks.tells i at);
       gaps = λ pair at. were.gaps pair (rw gaps at at);
       noted = λ pair at. rw gaps (were.noted pair (rw noted at at));
-      verdicts = λ v at. ⊎_elim
-          (λ (before : Contains old.verdicts.items (Some v)). let r = were.verdicts v before in let right : IsRight audit new.used.items v = record { value = r.value; marks = λ i e. marks.kept i (r.marks i e) } in right)
-          (λ (here : record { ride = ride; has_option = has } ≡ v). subst (IsRight audit new.used.items) here (record { value = value; marks = marks_selected audit.feed ride old.used.items new.used.items were.many marks }))
-          (verdicts v at);
+      verdicts = λ other kept at. ⊎_elim
+          (λ (before : HoldsFor old.verdicts other kept). let r = were.verdicts other kept before in let right : IsRight audit new.used.items other kept = record { value = r.value; marks = λ i e. marks.kept i (r.marks i e) } in right)
+          (λ (here : (ride ≡ other) × (has ≡ kept)).
+          let one : IsRight audit new.used.items ride has = record { value = value; marks = marks_selected audit.feed ride old.used.items new.used.items were.many marks } in
+          subst (λ (r : RideFacts). IsRight audit new.used.items r kept) here.0 (subst (IsRight audit new.used.items ride) here.1 one))
+          (verdicts other kept at);
       walked = still_walked audit old new (record { used = marks.kept; gaps = λ pair at. rw gaps at }) walked were.walked;
     }
 
 -- a ride between two ends without an option is a gap
 pub gap_here : (audit : AuditOf) (network : Option NetworkId) (from to : End) (facts : RideFacts) → StandsFor audit network from to facts →
-    has_option audit.feed audit.rider (leg_facts audit.feed (record { from = from.like; to = to.like; network = network; departure = from.departure; arrival = to.arrival })) ≡ false →
+    has_option audit.feed audit.buyer (leg_facts audit.feed (record { from = from.like; to = to.like; network = network; departure = from.departure; arrival = to.arrival })) ≡ false →
     IsGap audit (record { from = from.stop; to = to.stop })
 gap_here audit network from to facts is off =
-    record { facts = facts; audited = is.audited; from = sym is.from_stop; to = sym is.to_stop; unpaid = sym (option_like audit.feed _ facts is.like audit.rider) ∙ off }
+    record { facts = facts; audited = is.audited; from = sym is.from_stop; to = sym is.to_stop; unpaid = sym (option_like audit.feed _ facts is.like audit.buyer) ∙ off }
 
 -- what was found stays true with one gap more
 pub noted_found : (audit : AuditOf) (old new : Found) (pair : Pair) → IsFound audit old → new.used ≡ old.used → new.verdicts ≡ old.verdicts → new.walked ≡ old.walked → AreNoted new →
@@ -213,7 +216,7 @@ noted_found audit old new pair were used verdicts walked noted kept tells gap =
           (λ (here : p ≡ pair). subst (IsGap audit) (sym here) gap)
           (tells p at);
       noted = noted;
-      verdicts = λ v at. rw used (were.verdicts v (rw verdicts at at));
+      verdicts = λ ride has at. rw used (were.verdicts ride has (rw verdicts at at));
       walked = still_walked audit old new (record { used = λ i at. rw used at; gaps = kept }) walked were.walked;
     }
 
@@ -226,7 +229,7 @@ walked_found audit old new were used gaps verdicts noted covers =
       used = λ i at. were.used i (rw used at at);
       gaps = λ p at. were.gaps p (rw gaps at at);
       noted = λ p at. rw gaps (were.noted p (rw noted at at));
-      verdicts = λ v at. rw used (were.verdicts v (rw verdicts at at));
+      verdicts = λ ride has at. rw used (were.verdicts ride has (rw verdicts at at));
       walked = ends_later audit old new (grows_same old new used gaps) new.walked.network new.walked.ends.items covers;
     }
 
@@ -235,11 +238,11 @@ two_of a b = record { from = a; to = b }
 
 -- a ride is covered where its kind was judged, and its stops noted where it has no option
 pub covered_by_judgement : (audit : AuditOf) (network : Option NetworkId) (from to : End) (found : Found) (ride facts : RideFacts) → StandsFor audit network from to facts → AreLike audit.feed ride facts →
-    (has_option audit.feed audit.rider (leg_facts audit.feed ride) ≡ false → Contains found.gaps.items (record { from = from.stop; to = to.stop })) →
+    (has_option audit.feed audit.buyer (leg_facts audit.feed ride) ≡ false → Contains found.gaps.items (record { from = from.stop; to = to.stop })) →
     ((i : ℕ) → selects audit.feed ride i ≡ true → is_marked found.used.items i ≡ true) → IsCovered audit found facts
 covered_by_judgement audit network from to found ride facts is like gap marks =
     record {
       unpaid = λ e. subst (Contains found.gaps.items) (pair_equal (two_of from.stop to.stop) (two_of facts.from facts.to) (ap (λ (s : StopId). s.0) is.from_stop) (ap (λ (s : StopId). s.0) is.to_stop))
-          (gap (option_like audit.feed ride facts like audit.rider ∙ e));
+          (gap (option_like audit.feed ride facts like audit.buyer ∙ e));
       rules = λ i e. marks i (selects_like audit.feed ride facts like i ∙ e);
     }

@@ -9,7 +9,7 @@ use Rattle.transit_base.specs.Moments.{civil_day, moment_at, time_of_day}
 use Rattle.transit_base.specs.declared.numbers.AreaId.{AreaId}
 use Rattle.transit_base.specs.declared.numbers.FrameId.{FrameId}
 use Rattle.transit_base.specs.declared.numbers.NetworkId.{NetworkId}
-use Rattle.transit_base.specs.declared.numbers.RiderId.{RiderId}
+use Rattle.feed_rows.specs.declared.journeys.Buyer.{Buyer}
 use Rattle.feed_rows.specs.declared.journeys.LegFacts.{LegFacts}
 use Rattle.feed_rows.specs.declared.journeys.RideFacts.{RideFacts}
 use Rattle.feed_rows.specs.declared.rows.LegRuleRow.{LegRuleRow}
@@ -22,36 +22,8 @@ use Rattle.feed_rows.specs.ServiceDays.{is_active}
 use Rattle.feed_laws.proofs.MomentLaws.{civil_day-moment_at, moment_at-parts, time_of_day_bound, time_of_day-moment_at}
 use Rattle.plain_laws.specs.Plain.{at_and}
 use Rattle.plain_laws.proofs.Laws.{list_any_same, picks_below-same, same_test}
-use Rattle.fare_audit.specs.Found.{AreLike, selects}
-use Rattle.fare_audit.specs.Likes.{AreCutsOf, IsCutBefore}
-use Rattle.fare_audit.proofs.DayLaws.{any_of_members}
-
--- times with no start and no end between them lie in the same spans
-same_starts : (start time cut : ℕ) → cut ≤ time → (start ≤ time → start ≤ cut) → nat_le start cut ≡ nat_le start time
-same_starts start time cut within by = same_test _ _ (λ h. grind (arith, nat_tests, h, within)) (λ h. let le : start ≤ time = grind (arith, nat_tests, h) in let e = by le in grind (arith, nat_tests, e))
-
-same_ends : (end time cut : ℕ) → cut ≤ time → (end ≤ time → end ≤ cut) → nat_lt cut end ≡ nat_lt time end
-same_ends end time cut within by =
-    ⊎_elim
-    (λ (lt : time < end). same_test _ _ (λ h. grind (arith, nat_tests, lt)) (λ h. grind (arith, nat_tests, lt, within)))
-    (λ (past : end ≤ time). let e = by past in same_test _ _ (λ h. absurd (grind (arith, nat_tests, h, e))) (λ h. absurd (grind (arith, nat_tests, h, past))))
-    (cases_lt time end)
-
-pub frames_by_cut : (feed : FeedRows) (cuts : List ℕ) (at like : ℤ) (cut : ℕ) → AreCutsOf feed cuts → IsCutBefore cuts (time_of_day at) cut →
-    like ≡ at -ℤ pos (time_of_day at - cut) → frames_at feed (record { 0 = like }) ≡ frames_at feed (record { 0 = at })
-unfolding holds_at
-frames_by_cut feed cuts at like cut are is e =
-    let bound = time_of_day_bound at in
-    let within = is.within in
-    let parts = moment_at-parts at in
-    let there : moment_at (civil_day at) (pos cut) ≡ like = omega (arith, ints, parts, e, within) in
-    let day : civil_day like ≡ civil_day at = ap civil_day (sym there) ∙ civil_day-moment_at (civil_day at) cut (omega (arith, bound, within)) in
-    let time : time_of_day like ≡ cut = ap time_of_day (sym there) ∙ time_of_day-moment_at (civil_day at) cut (omega (arith, bound, within)) in
-    picks_below-same (length feed.frame_names) (held like) (held at) (λ i. record { 0 = i }) (λ i lt. rw (day, time) (any_of_members (λ row. (row.frame.0 == i) && is_within feed (civil_day at) cut row) (λ row. (row.frame.0 == i) && is_within feed (civil_day at) (time_of_day at) row) feed.timeframes (λ row has.
-    rw (same_starts row.start (time_of_day at) cut within (is.same row.start (are.starts row has)), same_ends row.end (time_of_day at) cut within (is.same row.end (are.ends row has))) refl)))
-  where
-    held : ℤ → ℕ → Bool
-    held moment i = holds_at feed (record { 0 = i }) moment
+use Rattle.fare_timeframes.specs.Cuts.{AreLike}
+use Rattle.fare_audit.specs.Found.{selects}
 
 -- a leg as rules see it
 bare : Option NetworkId → List AreaId → List AreaId → List FrameId → List FrameId → LegFacts
@@ -87,7 +59,7 @@ module _ (feed : FeedRows) (a b : RideFacts) (like : AreLike feed a b) where
       step None = refl
       step (Some rule) = selected_like rule
 
-  pub option_like : (rider : Option RiderId) → has_option feed rider (leg_facts feed a) ≡ has_option feed rider (leg_facts feed b)
+  pub option_like : (buyer : Buyer) → has_option feed buyer (leg_facts feed a) ≡ has_option feed buyer (leg_facts feed b)
   unfolding has_option
-  option_like rider =
-      list_any_same _ _ feed.leg_rules (λ rule. ap (λ (s : Bool). s && list_any (is_open rule.product rider) feed.products) (selected_like rule))
+  option_like buyer =
+      list_any_same _ _ feed.leg_rules (λ rule. ap (λ (s : Bool). s && list_any (is_open rule.product buyer) feed.products) (selected_like rule))

@@ -14,7 +14,7 @@ use Rattle.std.specs.declared.cmp.Ordering.TheVariants.{Less}
 use Rattle.std.proofs.lemmas.Bool.{and_from, and_parts, cases_Bool, cases_lt, eq-eqb, eqb-true}
 use Rattle.std.proofs.lemmas.Bool.Decides.{nat_tests}
 use Rattle.std.proofs.lemmas.Option.{none-some, slice_get_within}
-use Rattle.transit_base.specs.declared.numbers.RiderId.{RiderId}
+use Rattle.feed_rows.specs.declared.journeys.Buyer.{Buyer}
 use Rattle.transit_base.specs.declared.numbers.RuleId.{RuleId}
 use Rattle.transit_base.specs.declared.numbers.StopId.{StopId}
 use Rattle.feed_rows.specs.declared.journeys.Pair.{Pair}
@@ -55,7 +55,7 @@ module _ (audit : AuditOf) (last : ℤ) (many : days_from audit.first last ≡ a
     (covers : (facts : RideFacts) → IsAudited audit facts → IsCovered audit found facts)
     (stops : (facts : RideFacts) → IsAudited audit facts → (facts.from.0 < length audit.feed.stops) × (facts.to.0 < length audit.feed.stops)) where
   unpaid : ℕ → ℕ → RideFacts → Bool
-  unpaid from to = is_unpaid_between audit.feed audit.rider (record { 0 = from }) (record { 0 = to })
+  unpaid from to = is_unpaid_between audit.feed audit.buyer (record { 0 = from }) (record { 0 = to })
 
   row_of : ℕ → List Pair
   unfolding unpaid pair
@@ -70,8 +70,8 @@ module _ (audit : AuditOf) (last : ℤ) (many : days_from audit.first last ≡ a
       let to : gap.facts.to.0 ≡ p.to.0 = ap (λ (s : StopId). s.0) gap.to in
       let low = within.0 in
       let high = within.1 in
-      let fails : not (has_option audit.feed audit.rider (leg_facts audit.feed gap.facts)) ≡ true = ap not gap.unpaid in
-      let passes = and_from ((gap.facts.from.0 == p.from.0) && (gap.facts.to.0 == p.to.0)) (not (has_option audit.feed audit.rider (leg_facts audit.feed gap.facts))) (and_from (gap.facts.from.0 == p.from.0) (gap.facts.to.0 == p.to.0) (same_number gap.facts.from.0 p.from.0 from) (same_number gap.facts.to.0 p.to.0 to)) fails in
+      let fails : not (has_option audit.feed audit.buyer (leg_facts audit.feed gap.facts)) ≡ true = ap not gap.unpaid in
+      let passes = and_from ((gap.facts.from.0 == p.from.0) && (gap.facts.to.0 == p.to.0)) (not (has_option audit.feed audit.buyer (leg_facts audit.feed gap.facts))) (and_from (gap.facts.from.0 == p.from.0) (gap.facts.to.0 == p.to.0) (same_number gap.facts.from.0 p.from.0 from) (same_number gap.facts.to.0 p.to.0 to)) fails in
       let some = some_from audit last many (unpaid p.from.0 p.to.0) gap.facts gap.audited passes in
       Contains-joined_below (length audit.feed.stops) row_of p.from.0 p (omega (arith, low, from))
       (Contains-picks_below (length audit.feed.stops) (λ to. some_ride audit.feed audit.first last (unpaid p.from.0 to)) (pair p.from.0) p.to.0 (omega (arith, high, to)) some)
@@ -86,10 +86,10 @@ module _ (audit : AuditOf) (last : ℤ) (many : days_from audit.first last ≡ a
       let row = joined_below-tells (length audit.feed.stops) row_of p at in
       let one = picks_below-tells (length audit.feed.stops) (λ to. some_ride audit.feed audit.first last (unpaid row.0 to)) (pair row.0) p row.2 in
       let some = some_tells audit last many (unpaid row.0 one.number) one.passes in
-      let parts = and_parts ((some.0.from.0 == row.0) && (some.0.to.0 == one.number)) (not (has_option audit.feed audit.rider (leg_facts audit.feed some.0))) some.2 in
+      let parts = and_parts ((some.0.from.0 == row.0) && (some.0.to.0 == one.number)) (not (has_option audit.feed audit.buyer (leg_facts audit.feed some.0))) some.2 in
       let both = and_parts (some.0.from.0 == row.0) (some.0.to.0 == one.number) parts.0 in
       let covered = covers some.0 some.1 in
-      let here = covered.unpaid (off (has_option audit.feed audit.rider (leg_facts audit.feed some.0)) parts.1) in
+      let here = covered.unpaid (off (has_option audit.feed audit.buyer (leg_facts audit.feed some.0)) parts.1) in
       let from : some.0.from.0 ≡ row.0 = number some.0.from.0 row.0 both.0 in
       let to : some.0.to.0 ≡ one.number = number some.0.to.0 one.number both.1 in
       let P : Pair → Type 0 = Contains found.gaps.items in
@@ -102,7 +102,7 @@ module _ (audit : AuditOf) (last : ℤ) (many : days_from audit.first last ≡ a
       number : (a b : ℕ) → (a == b) ≡ true → a ≡ b
       number a b e = grind (arith, nat_tests, e)
 
-  pub gaps_are : (sorted : List Pair) → ArePairsInOrder found.gaps.items sorted → sorted ≡ uncovered_pairs audit.feed audit.rider audit.first last
+  pub gaps_are : (sorted : List Pair) → ArePairsInOrder found.gaps.items sorted → sorted ≡ uncovered_pairs audit.feed audit.buyer audit.first last
   unfolding uncovered_pairs row_of unpaid pair
   gaps_are sorted ordered =
       same_from_members ComesBefore before_order sorted (joined_below (length audit.feed.stops) row_of) ordered.rises

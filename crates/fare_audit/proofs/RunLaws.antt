@@ -39,7 +39,8 @@ use Rattle.fare_audit.specs.declared.ends.End.{End}
 use Rattle.fare_audit.specs.declared.found.Found.{Found}
 use Rattle.fare_audit.specs.declared.walk.Run.{Run}
 use Rattle.fare_audit.specs.Days.{AreAlike, AreDaysLike, AreWithin, IsWithin}
-use Rattle.fare_audit.specs.Found.{AreLike, AuditOf, CoversEnds, CoversPair, GrowsTo, HasRide, IsAudited, IsCovered, StandsFor}
+use Rattle.fare_timeframes.specs.Cuts.{AreLike}
+use Rattle.fare_audit.specs.Found.{AuditOf, CoversEnds, CoversPair, GrowsTo, HasRide, IsAudited, IsCovered, StandsFor}
 use Rattle.fare_audit.specs.Runs.{AreEndsOf, CoversRun, CoversShift, CoversTrip, IsAuditedRun, IsEndOf, IsNearRun, ride_by}
 use Rattle.fare_audit.proofs.DayLaws.{frames_alike}
 use Rattle.fare_audit.proofs.FoundLaws.{covered_later, covered_like, item_at}

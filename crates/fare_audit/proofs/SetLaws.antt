@@ -13,17 +13,6 @@ use Rattle.feed_rows.specs.declared.rows.TimeframeRow.{TimeframeRow}
 use Rattle.plain_laws.specs.Plain.{at_and, filled_and}
 use Rattle.plain_laws.proofs.Laws.{no_item}
 use Rattle.fare_audit.specs.Found.{MarksAll, is_marked}
-use Rattle.fare_audit.specs.Likes.{IsCutBefore}
-
--- what stands in a list of which one place was written stood there, or is what was written
-pub contains_set : {X : Type 0} (xs : List X) (i : ℕ) (v x : X) → i < length xs → Contains (set xs i v) x → Contains xs x ⊎ (v ≡ x)
-contains_set xs i v x lt at =
-    let within = at.1 in
-    let long = length-set xs i v in
-    ⊎_elim
-    (λ (e : at.0 ≡ i). inr (sym (ap (λ n. get_or (set xs i v) n x) e ∙ get_or-set_same xs i v x lt) ∙ at.2))
-    (λ n. inl (at.0, omega (arith, within, long), sym (get_or-set_other xs i at.0 v x n) ∙ at.2))
-    (cases_eq at.0 i)
 
 get_or_past : (xs : List Bool) (n : ℕ) → length xs ≤ n → get_or xs n false ≡ false
 get_or_past [] n le = refl
@@ -94,42 +83,9 @@ marks_past rules rule old now were past =
           (were.tells i at);
     }
 
--- the cut before the first that isn't passed
-pub cut_at : (cuts : List ℕ) (time i cut : ℕ) → IsNonDecreasingBy (λ (c : ℕ). c) cuts → 0 < i → i ≤ length cuts → cut ≡ get_or cuts (i - 1) 0 →
-    AllWithin (λ c. leb c time ≡ true) cuts 0 i → AllWithin (λ c. leb c time ≡ false) cuts i (length cuts) → IsCutBefore cuts time cut
-cut_at cuts time i cut up some within e passed left =
-    record {
-      within = let le = leb-true _ time (passed (i - 1) 0 (omega arith) (omega (arith, some))) in omega (arith, le, e);
-      same = λ other at le. ⊎_elim
-          (λ (before : at.0 < i). let low = up at.0 (i - 1) 0 (omega (arith, before)) (omega (arith, some, within)) in let here : get_or cuts at.0 0 ≡ other = get_or_from_slice_get cuts at.0 other 0 (slice_get-get_or cuts at.0 other at.1 ∙ ap Some at.2) in omega (arith, low, here, e))
-          (λ (past : i ≤ at.0). let off = left at.0 other past at.1 in absurd (false≢true (sym off ∙ ap (λ n. leb n time) at.2 ∙ hit other le)))
-          (cases_lt at.0 i);
-    }
-  where
-    hit : (n : ℕ) → n ≤ time → leb n time ≡ true
-    hit n le = grind (arith, nat_tests, le)
-
--- no cut is passed
-pub cut_none : (cuts : List ℕ) (time : ℕ) → AllWithin (λ c. leb c time ≡ false) cuts 0 (length cuts) → IsCutBefore cuts time 0
-cut_none cuts time left =
-    record {
-      within = omega arith;
-      same = λ other at le. let off = left at.0 other (omega arith) at.1 in absurd (false≢true (sym off ∙ ap (λ n. leb n time) at.2 ∙ hit other le));
-    }
-  where
-    hit : (n : ℕ) → n ≤ time → leb n time ≡ true
-    hit n le = grind (arith, nat_tests, le)
-
 -- an empty list has no item
 pub none_in : {X : Type 0} (x : X) → Contains [] x → ⊥
 none_in x at = let lt = at.1 in omega (arith, lt)
-
--- and one of blanks no filled one
-pub no_more : {X : Type 0} (xs : List (Option X)) → ((x : X) → Contains xs (Some x) → ⊥) → (x : X) → Contains (xs ++ None ∷ []) (Some x) → ⊥
-no_more xs before x at = ⊎_elim
-    (λ (old : Contains xs (Some x)). before x old)
-    (λ (new : None ≡ Some x). none-some x new)
-    (Contains-push_cases xs None (Some x) at)
 
 -- nothing is marked where each is no
 pub none_marked : (marks : List Bool) (n i : ℕ) → marks ≡ replicate n false → is_marked marks i ≡ true → ⊥
@@ -144,11 +100,9 @@ written old new n e m =
     let gone = length-drop (length new) old in
     rw (no_item (drop (length new) old) (omega (arith, gone, e)), append-nil new) (take_all n new (omega (arith, e, m)))
 
--- the start and the end of one timeframe more
-pub cuts_more : (rows : List TimeframeRow) (row : TimeframeRow) (cuts : List ℕ) → ((r : TimeframeRow) → Contains rows r → Contains cuts r.start × Contains cuts r.end) →
-    (r : TimeframeRow) → Contains (rows ++ row ∷ []) r → Contains ((cuts ++ row.start ∷ []) ++ row.end ∷ []) r.start × Contains ((cuts ++ row.start ∷ []) ++ row.end ∷ []) r.end
-cuts_more rows row cuts were r at = ⊎_elim
-    (λ (old : Contains rows r). let had = were r old in (Contains-append_left (cuts ++ row.start ∷ []) _ r.start (Contains-append_left cuts _ r.start had.0), Contains-append_left (cuts ++ row.start ∷ []) _ r.end (Contains-append_left cuts _ r.end had.1)))
-    (λ (new : row ≡ r). subst (λ (x : TimeframeRow). Contains ((cuts ++ row.start ∷ []) ++ row.end ∷ []) x.start × Contains ((cuts ++ row.start ∷ []) ++ row.end ∷ []) x.end) new
-    (Contains-append_left (cuts ++ row.start ∷ []) _ row.start (Contains-push cuts row.start), Contains-push (cuts ++ row.start ∷ []) row.end))
-    (Contains-push_cases rows row r at)
+-- marks that were written over a whole list of them
+pub marks_written : (rules : List RuleId) (old lent new : List Bool) (n : ℕ) → lent ≡ old → n ≡ length old → MarksAll rules lent new → MarksAll rules old (take n (new ++ drop (length new) old))
+marks_written rules old lent new n same all marks =
+    let many = marks.many in
+    let own = ap length same in
+    subst (MarksAll rules old) (sym (written old new n (omega (arith, many, own)) all)) (subst (λ (o : List Bool). MarksAll rules o new) same marks)

@@ -5,11 +5,11 @@ use Rattle.fare_products.specs.BuiltProducts.{AreProductsOf}
 use Rattle.fare_timeframes.specs.BuiltTimeframes.{AreTimeframesOf}
 use Rattle.fare_audit.specs.declared.judge.Audit.TheInside.{Inside}
 use Rattle.fare_audit.specs.Found.{AuditOf}
-use Rattle.fare_audit.specs.Likes.{AreCutsOf, AreLikeStops}
+use Rattle.fare_audit.specs.Likes.{AreLikeStops}
 
 -- the fields as one record
 abbrev pub audit_inside : Inside → AuditOf
-audit_inside s = record { feed = s.feed.now; rider = s.rider; first = s.first.0; count = s.count }
+audit_inside s = record { feed = s.feed.now; buyer = s.buyer; first = s.first.0; count = s.count }
 
 -- all was built from the feed, and the days lie within bounds
 pub record IsBuilt (s : Inside) : Type 0 where
@@ -20,4 +20,3 @@ pub record IsBuilt (s : Inside) : Type 0 where
   pub rules : AreLegRulesOf s.feed.now s.rules
   pub products : AreProductsOf s.feed.now s.products
   pub likes : AreLikeStops s.feed.now s.likes.items
-  pub cuts : AreCutsOf s.feed.now s.cuts.items

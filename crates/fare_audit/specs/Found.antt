@@ -3,7 +3,7 @@ use Rattle.std.specs.Prelude.{◌≡◌, ◌<◌, ◌⊎◌, ℕ, Bool, true, fa
 use Rattle.std.specs.Option.{ForSome}
 use Rattle.std.specs.List.{list_any}
 use Rattle.transit_base.specs.declared.numbers.NetworkId.{NetworkId}
-use Rattle.transit_base.specs.declared.numbers.RiderId.{RiderId}
+use Rattle.feed_rows.specs.declared.journeys.Buyer.{Buyer}
 use Rattle.transit_base.specs.declared.numbers.RuleId.{RuleId}
 use Rattle.feed_rows.specs.declared.journeys.Pair.{Pair}
 use Rattle.feed_rows.specs.declared.journeys.Ride.{Ride}
@@ -12,17 +12,18 @@ use Rattle.feed_rows.specs.FareChoices.{is_open}
 use Rattle.feed_rows.specs.FareGaps.{has_option}
 use Rattle.feed_rows.specs.FeedRows.{FeedRows}
 use Rattle.feed_rows.specs.LegRules.{is_selected_rule}
-use Rattle.feed_rows.specs.Legs.{frames_at, leg_facts, stop_areas}
+use Rattle.feed_rows.specs.Legs.{leg_facts}
 use Rattle.feed_rows.specs.Rides.{ride_facts}
 use Rattle.plain_laws.specs.Plain.{at_and}
+use Rattle.fare_timeframes.specs.Cuts.{AreLike}
+use Rattle.ride_cache.specs.Kept.{Holds, HoldsFor}
 use Rattle.fare_audit.specs.declared.ends.End.{End}
 use Rattle.fare_audit.specs.declared.found.Found.{Found}
-use Rattle.fare_audit.specs.declared.verdicts.Verdict.{Verdict}
 
--- a feed, a rider, the first of the service days that are looked at, and how many there are
+-- a feed, a buyer, the first of the service days that are looked at, and how many there are
 pub record AuditOf : Type 0 where
   pub feed : FeedRows
-  pub rider : Option RiderId
+  pub buyer : Buyer
   pub first : ℤ
   pub count : ℕ
 
@@ -33,14 +34,6 @@ pub record IsAudited (audit : AuditOf) (facts : RideFacts) : Type 0 where
   pub within : number < audit.count
   pub day : ride.day.0 ≡ audit.first +ℤ pos number
   pub is : ride_facts audit.feed ride ≡ Some facts
-
--- fare rules see the same of both rides
-pub record AreLike (feed : FeedRows) (a b : RideFacts) : Type 0 where
-  pub network : a.network ≡ b.network
-  pub from_areas : stop_areas feed a.from ≡ stop_areas feed b.from
-  pub to_areas : stop_areas feed a.to ≡ stop_areas feed b.to
-  pub from_frames : frames_at feed a.departure ≡ frames_at feed b.departure
-  pub to_frames : frames_at feed a.arrival ≡ frames_at feed b.arrival
 
 -- some ride of these days is seen as this one
 abbrev pub HasLike : AuditOf → RideFacts → Type 0
@@ -72,15 +65,15 @@ pub record MarksAll (rules : List RuleId) (old new : List Bool) : Type 0 where
   pub marks : (rule : RuleId) → Contains rules rule → rule.0 < length old → is_marked new rule.0 ≡ true
   pub tells : (i : ℕ) → is_marked new i ≡ true → (is_marked old i ≡ true) ⊎ Contains rules (record { 0 = i })
 
--- a row of the rule's product is open to the rider
+-- a row of the rule's product is open to the buyer
 abbrev pub opens_rule : AuditOf → RuleId → Bool
 opens_rule audit rule =
-    at_and audit.feed.leg_rules rule.0 (λ row. list_any (is_open row.product audit.rider) audit.feed.products)
+    at_and audit.feed.leg_rules rule.0 (λ row. list_any (is_open row.product audit.buyer) audit.feed.products)
 
--- the verdict is right, and the rules that the ride selects are marked
-pub record IsRight (audit : AuditOf) (used : List Bool) (verdict : Verdict) : Type 0 where
-  pub value : verdict.has_option ≡ has_option audit.feed audit.rider (leg_facts audit.feed verdict.ride)
-  pub marks : (i : ℕ) → selects audit.feed verdict.ride i ≡ true → is_marked used i ≡ true
+-- the verdict on the ride is right, and the rules that the ride selects are marked
+pub record IsRight (audit : AuditOf) (used : List Bool) (ride : RideFacts) (has : Bool) : Type 0 where
+  pub value : has ≡ has_option audit.feed audit.buyer (leg_facts audit.feed ride)
+  pub marks : (i : ℕ) → selects audit.feed ride i ≡ true → is_marked used i ≡ true
 
 -- a ride between the stops has no option
 pub record IsGap (audit : AuditOf) (pair : Pair) : Type 0 where
@@ -88,7 +81,7 @@ pub record IsGap (audit : AuditOf) (pair : Pair) : Type 0 where
   pub audited : IsAudited audit facts
   pub from : facts.from ≡ pair.from
   pub to : facts.to ≡ pair.to
-  pub unpaid : has_option audit.feed audit.rider (leg_facts audit.feed facts) ≡ false
+  pub unpaid : has_option audit.feed audit.buyer (leg_facts audit.feed facts) ≡ false
 
 -- a ride selects the rule
 pub record IsUsed (audit : AuditOf) (rule : ℕ) : Type 0 where
@@ -98,11 +91,11 @@ pub record IsUsed (audit : AuditOf) (rule : ℕ) : Type 0 where
 
 -- each pair that is noted stands among the gaps
 abbrev pub AreNoted : Found → Type 0
-AreNoted found = (pair : Pair) → Contains found.noted.items (Some pair) → Contains found.gaps.items pair
+AreNoted found = (pair : Pair) → Holds found.noted pair → Contains found.gaps.items pair
 
 -- what follows from the ride with these facts is found
 pub record IsCovered (audit : AuditOf) (found : Found) (facts : RideFacts) : Type 0 where
-  pub unpaid : has_option audit.feed audit.rider (leg_facts audit.feed facts) ≡ false →
+  pub unpaid : has_option audit.feed audit.buyer (leg_facts audit.feed facts) ≡ false →
       Contains found.gaps.items (record { from = facts.from; to = facts.to })
   pub rules : (i : ℕ) → selects audit.feed facts i ≡ true → is_marked found.used.items i ≡ true
 
@@ -122,7 +115,7 @@ pub record IsFound (audit : AuditOf) (found : Found) : Type 0 where
   pub used : (i : ℕ) → is_marked found.used.items i ≡ true → IsUsed audit i
   pub gaps : (pair : Pair) → Contains found.gaps.items pair → IsGap audit pair
   pub noted : AreNoted found
-  pub verdicts : (verdict : Verdict) → Contains found.verdicts.items (Some verdict) → IsRight audit found.used.items verdict
+  pub verdicts : (ride : RideFacts) (has : Bool) → HoldsFor found.verdicts ride has → IsRight audit found.used.items ride has
   pub walked : CoversEnds audit found found.walked.network found.walked.ends.items
 
 -- nothing that was found is lost

@@ -44,23 +44,24 @@ impl AuditDays {
     pub fn build(
         alloc: Global,
         feed: &Feed,
+        calendar: &Calendar,
         first: Day,
         count: u32,
     ) -> Result<AuditDays, AllocError>
+        requires calendar { IsCalendarOf feed.now calendar.now }
         requires low { negsuc 799_999 ≤ℤ first.0 }
         requires high { first.0 ≤ℤ pos 2_000_000 }
         requires few { count ≤ 366 }
         ensures { IfOk result (AreDaysOf feed.now first.0 count) }
     {
-        let calendar = Calendar::build(alloc, feed)?;
-        let kinds = day_kinds(alloc, feed, &calendar, first, count)?;
+        let kinds = day_kinds(alloc, feed, calendar, first, count)?;
         let mut days = AuditDays {
             one_day: Groups::empty(alloc),
             two_days: Groups::empty(alloc),
             all: Groups::empty(alloc),
         };
         for service in 0..feed.service_names.items().len() as u32 {
-            let active = active_days(alloc, &calendar, ServiceId(service), first, count)?;
+            let active = active_days(alloc, calendar, ServiceId(service), first, count)?;
             let one = unlike_days(alloc, &kinds, &active, Reach::OneDay)?;
             let two = unlike_days(alloc, &kinds, &active, Reach::TwoDays)?;
             days.one_day.push(&one)?;

@@ -4,12 +4,14 @@ ghost use Rattle.feed_rows.specs.declared.journeys.Pair.{Pair};
 ghost use Rattle.fare_audit.specs.Found.{AuditOf, AreNoted, IsFound, GrowsTo};
 
 use crate::ends::{End, are_same_ends};
-use crate::pairs::{PAIR_ROOM, has_pair, pair_place, put_in_order};
-use crate::places::unfilled;
-use crate::verdicts::{ROOM, Verdict, is_same_network};
+use crate::pairs::{PAIRS, has_pair, pair_number, put_in_order};
 use feed_rows::Pair;
+use ride_cache::{Cache, RideCache, is_same_network};
 use std::alloc::{AllocError, Global};
 use transit_base::NetworkId;
+
+/// On how many rides a verdict is kept at most.
+const VERDICTS: usize = 65_536;
 
 /// The calls of a run, as fare rules see them, and its network.
 #[derive(Drop)]
@@ -24,10 +26,10 @@ pub struct Found {
     pub used: Vec<bool>,
     /// Pairs of rides without an option; one may stand several times.
     pub gaps: Vec<Pair>,
-    /// What was judged, each at its place.
-    pub verdicts: Vec<Option<Verdict>>,
-    /// Pairs that stand among the gaps, each at its place.
-    pub noted: Vec<Option<Pair>>,
+    /// Whether rides that were judged lately have an option.
+    pub verdicts: RideCache<bool>,
+    /// Pairs that were noted lately.
+    pub noted: Cache<Pair>,
     /// How many gaps there may be until those that stand several times are taken out.
     pub most: usize,
     /// The run whose rides were looked at last: those of another that is seen the same needn't be.
@@ -59,9 +61,9 @@ impl Found {
         Ok(Found {
             used: vec![in alloc; false; rules]?,
             gaps: Vec::new(alloc),
-            verdicts: unfilled(alloc, ROOM)?,
-            noted: unfilled(alloc, PAIR_ROOM)?,
-            most: PAIR_ROOM,
+            verdicts: RideCache::of(alloc, VERDICTS)?,
+            noted: Cache::of(alloc, PAIRS)?,
+            most: PAIRS,
             walked: Walk {
                 network: None,
                 ends: Vec::new(alloc),
@@ -102,15 +104,12 @@ impl Found {
         ensures kept { OnOk result ((p : Pair) → Contains self.old.gaps.items p → Contains self.new.gaps.items p) }
         ensures tells { OnOk result ((p : Pair) → Contains self.new.gaps.items p → Contains self.old.gaps.items p ⊎ (p ≡ pair)) }
     {
-        let place = pair_place(pair);
-        if has_pair(&self.noted, place, pair) {
+        if has_pair(&self.noted, pair) {
             return Ok(());
         }
         self.drop_doubles();
         self.gaps.push(pair)?;
-        if place < self.noted.len() {
-            self.noted[place] = Some(pair);
-        }
+        self.noted.put(pair_number(pair), pair);
         Ok(())
     }
 
@@ -122,7 +121,7 @@ impl Found {
     {
         if self.gaps.len() >= self.most {
             put_in_order(&mut self.gaps);
-            self.most = self.gaps.len().saturating_mul(2).max(PAIR_ROOM);
+            self.most = self.gaps.len().saturating_mul(2).max(PAIRS);
         }
     }
 }

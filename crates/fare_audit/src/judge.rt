@@ -1,6 +1,7 @@
 //! What an audit looks at, and how it judges a ride.
 ghost use Rattle.std.specs.Prelude.{◌≡◌, ◌≤◌, ◌<◌, ◌||◌, ℕ, true, pos, negsuc, ◌≤ℤ◌, ◌^◌, length, Contains, IfOk, OnOk};
 ghost use Rattle.feed_rows.specs.declared.journeys.RideFacts.{RideFacts};
+ghost use Rattle.feed_calendar.specs.BuiltCalendar.{IsCalendarOf};
 ghost use Rattle.feed_rows.specs.SoundFeed.{IsSoundFeed};
 ghost use Rattle.std.specs.List.{list_any};
 ghost use Rattle.feed_rows.specs.FareGaps.{has_option};
@@ -11,30 +12,28 @@ ghost use Rattle.fare_audit.specs.Found.{GrowsTo, HasLike, HasRide, IsCovered, I
 
 use crate::ends::End;
 use crate::found::Found;
-use crate::likes::{cut_before, cuts_of, like_stops};
-use crate::verdicts::{Verdict, recalled, ride_place};
+use crate::likes::like_stops;
 use fare_leg_rules::LegRules;
 use fare_products::Products;
 use fare_timeframes::Timeframes;
-use feed_rows::{Feed, Pair, RideFacts, RuleList};
+use feed_calendar::Calendar;
+use feed_rows::{Buyer, Feed, Pair, RideFacts, RuleList};
 use std::alloc::{AllocError, Global};
 use std::marker::Model;
-use transit_base::{Day, Moment, NetworkId, RiderId, RuleId, StopId};
+use transit_base::{Day, Moment, NetworkId, RuleId, StopId};
 
-/// A feed with its fare rules, a rider, and the service days whose rides are looked at. Contracts see these.
+/// A feed with its fare rules, a buyer, and the service days whose rides are looked at. Contracts see these.
 pub struct Audit<'f> {
     feed: &'f Feed,
-    rider: Option<RiderId>,
+    buyer: Buyer,
     first: Day,
     /// How many days there are.
     count: u32,
-    timeframes: Timeframes,
+    timeframes: Timeframes<'f>,
     rules: LegRules,
     products: Products,
     /// Of each stop one with the same areas.
     likes: Vec<StopId>,
-    /// The times of day at which a timeframe starts or ends.
-    cuts: Vec<u32>,
 }
 
 // Written out, so that what holds one needn't look into it to let go of it.
@@ -42,14 +41,13 @@ impl<'f> Drop for Audit<'f> {
     fn drop(self) {
         let Audit {
             feed: _,
-            rider: _,
+            buyer: _,
             first: _,
             count: _,
             timeframes: _,
             rules: _,
             products: _,
             likes: _,
-            cuts: _,
         } = self;
     }
 }
@@ -74,32 +72,34 @@ impl<'f> Audit<'f> {
     pub fn build(
         alloc: Global,
         feed: &'f Feed,
-        rider: Option<RiderId>,
+        calendar: &'f Calendar,
+        buyer: Buyer,
         first: Day,
         count: u32,
     ) -> Result<Audit<'f>, AllocError>
+        requires calendar { IsCalendarOf feed.now calendar.now }
         requires low { negsuc 799_999 ≤ℤ first.0 }
         requires high { first.0 ≤ℤ pos 2_000_000 }
         requires few { count ≤ 366 }
-        ensures { IfOk result (λ audit. audit ≡ record { feed = feed.now; rider = rider; first = first.0; count = count }) }
+        ensures { IfOk result (λ audit. audit ≡ record { feed = feed.now; buyer = buyer; first = first.0; count = count }) }
     {
         let _rows = &feed.trips;
         let likes = like_stops(alloc, feed)?;
-        let cuts = cuts_of(alloc, feed)?;
         let products = Products::build(alloc, feed)?;
         let rules = LegRules::build(alloc, feed)?;
-        let timeframes = Timeframes::build(alloc, feed)?;
-        Ok(Audit {
-            feed,
-            rider,
-            first,
-            count,
-            timeframes,
-            rules,
-            products,
-            likes,
-            cuts,
-        })
+        match Timeframes::build(alloc, feed, calendar) {
+            Ok(timeframes) => Ok(Audit {
+                feed,
+                buyer,
+                first,
+                count,
+                timeframes,
+                rules,
+                products,
+                likes,
+            }),
+            Err(AllocError) => Err(AllocError),
+        }
     }
 
     /// The feed.
@@ -122,12 +122,12 @@ impl<'f> Audit<'f> {
         self.first
     }
 
-    /// Whether a row of the rule's product is open to the rider.
+    /// Whether a row of the rule's product is open to the buyer.
     fn opens(&self, rule: RuleId) -> bool
         ensures { result ≡ opens_rule self.now rule }
     {
         match self.feed().leg_rules.items().get(rule.0 as usize) {
-            Some(row) => self.products.least(row.product, self.rider).is_some(),
+            Some(row) => self.products.least(row.product, self.buyer).is_some(),
             None => false,
         }
     }
@@ -138,7 +138,7 @@ impl<'f> Audit<'f> {
     /// Want of memory.
     fn judge(&self, alloc: Global, ride: &RideFacts, used: &mut [bool]) -> Result<bool, AllocError>
         requires { length used.old ≡ length self.now.feed.leg_rules }
-        ensures value { IfOk result (λ has. has ≡ has_option self.now.feed self.now.rider (leg_facts self.now.feed ride.now)) }
+        ensures value { IfOk result (λ has. has ≡ has_option self.now.feed self.now.buyer (leg_facts self.now.feed ride.now)) }
         ensures marks { OnOk result (MarksAll (selected_rules self.now.feed (leg_facts self.now.feed ride.now)) used.old used.new) }
     {
         let leg = self.timeframes.leg_facts(alloc, ride)?;
@@ -147,7 +147,7 @@ impl<'f> Audit<'f> {
         Ok(self.opens_any(rules.items()))
     }
 
-    /// Whether a row of the product of one of the rules is open to the rider.
+    /// Whether a row of the product of one of the rules is open to the buyer.
     fn opens_any(&self, rules: &[RuleId]) -> bool
         ensures { result ≡ list_any (opens_rule self.now) rules.now }
     {
@@ -166,22 +166,16 @@ impl<'f> Audit<'f> {
     ) -> Result<bool, AllocError>
         requires like { HasLike self.now ride.now }
         requires found { IsFound self.now found.old }
-        ensures value { IfOk result (λ has. has ≡ has_option self.now.feed self.now.rider (leg_facts self.now.feed ride.now)) }
+        ensures value { IfOk result (λ has. has ≡ has_option self.now.feed self.now.buyer (leg_facts self.now.feed ride.now)) }
         ensures found { OnOk result (IsFound self.now found.new) }
         ensures grows { OnOk result (GrowsTo found.old found.new) }
         ensures marks { OnOk result ((i : ℕ) → at_and self.now.feed.leg_rules i (is_selected_rule self.now.feed (leg_facts self.now.feed ride.now)) ≡ true → is_marked found.new.used.items i ≡ true) }
     {
-        let place = ride_place(ride);
-        if let Some(has_option) = recalled(&found.verdicts, place, ride) {
+        if let Some(has_option) = found.verdicts.get(ride) {
             return Ok(has_option);
         }
         let has_option = self.judge(alloc, ride, &mut found.used)?;
-        if place < found.verdicts.len() {
-            found.verdicts[place] = Some(Verdict {
-                ride: *ride,
-                has_option,
-            });
-        }
+        found.verdicts.put(ride, has_option);
         Ok(has_option)
     }
 
@@ -231,13 +225,9 @@ impl<'f> Audit<'f> {
 
     /// A moment at which the same timeframe groups hold.
     pub fn like_moment(&self, at: Moment) -> Moment
-        requires low { negsuc (2 ^ 50) ≤ℤ at.0 }
-        requires high { at.0 ≤ℤ pos (2 ^ 50) }
         ensures { frames_at self.now.feed result ≡ frames_at self.now.feed at }
     {
-        let time = at.time_of_day().0;
-        let cut = cut_before(&self.cuts, time);
-        Moment(at.0 - i64::from(time - cut))
+        self.timeframes.like_moment(at)
     }
 }
 

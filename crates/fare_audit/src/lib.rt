@@ -7,6 +7,7 @@
 #![tactic(auto)]
 
 ghost use Rattle.std.specs.Prelude.{◌≡◌, ◌≤◌, ◌≤ℤ◌, ◌+ℤ◌, ℤ, pos, negsuc, IfOk};
+ghost use Rattle.feed_calendar.specs.BuiltCalendar.{IsCalendarOf};
 ghost use Rattle.feed_rows.specs.FareGaps.{days_from, uncovered_pairs, idle_rules};
 
 mod days;
@@ -15,22 +16,21 @@ mod found;
 mod judge;
 mod likes;
 mod pairs;
-mod places;
 mod report;
-mod verdicts;
 mod walk;
 
 use crate::days::AuditDays;
 use crate::found::Found;
 use crate::judge::Audit;
 pub use crate::report::AuditReport;
-use feed_rows::Feed;
+use feed_calendar::Calendar;
 pub use feed_rows::Pair;
+use feed_rows::{Buyer, Feed};
 use feed_trips::Trips;
 use std::alloc::{AllocError, Global};
-use transit_base::{Day, RiderId};
+use transit_base::Day;
 
-/// The pairs of stops between which some ride has no fare option for the rider, and the leg rules that no ride selects.
+/// The pairs of stops between which some ride has no fare option for the buyer, and the leg rules that no ride selects.
 /// The rides are those whose service day lies from the first day to the last; each is one leg by itself.
 ///
 /// # Errors
@@ -38,7 +38,7 @@ use transit_base::{Day, RiderId};
 pub fn audit(
     alloc: Global,
     feed: &Feed,
-    rider: Option<RiderId>,
+    buyer: Buyer,
     first: Day,
     last: Day,
 ) -> Result<AuditReport, AllocError>
@@ -46,12 +46,33 @@ pub fn audit(
     requires high { last.0 ≤ℤ pos 376_199 }
     requires ordered { first.0 ≤ℤ last.0 }
     requires near { last.0 ≤ℤ (first.0 +ℤ pos 365) }
-    ensures gaps { IfOk result (λ report. report.gaps ≡ uncovered_pairs feed.now rider first.0 last.0) }
+    ensures gaps { IfOk result (λ report. report.gaps ≡ uncovered_pairs feed.now buyer first.0 last.0) }
+    ensures idle { IfOk result (λ report. report.idle ≡ idle_rules feed.now first.0 last.0) }
+{
+    let calendar = Calendar::build(alloc, feed)?;
+    audit_by(alloc, feed, &calendar, buyer, first, last)
+}
+
+/// The same by the calendar.
+fn audit_by(
+    alloc: Global,
+    feed: &Feed,
+    calendar: &Calendar,
+    buyer: Buyer,
+    first: Day,
+    last: Day,
+) -> Result<AuditReport, AllocError>
+    requires calendar { IsCalendarOf feed.now calendar.now }
+    requires low { negsuc 25_566 ≤ℤ first.0 }
+    requires high { last.0 ≤ℤ pos 376_199 }
+    requires ordered { first.0 ≤ℤ last.0 }
+    requires near { last.0 ≤ℤ (first.0 +ℤ pos 365) }
+    ensures gaps { IfOk result (λ report. report.gaps ≡ uncovered_pairs feed.now buyer first.0 last.0) }
     ensures idle { IfOk result (λ report. report.idle ≡ idle_rules feed.now first.0 last.0) }
 {
     let count = days_between(first, last);
-    let days = AuditDays::build(alloc, feed, first, count)?;
-    let audit = Audit::build(alloc, feed, rider, first, count)?;
+    let days = AuditDays::build(alloc, feed, calendar, first, count)?;
+    let audit = Audit::build(alloc, feed, calendar, buyer, first, count)?;
     let mut found = Found::empty(alloc, feed.leg_rules.items().len())?;
     match Trips::build(alloc, feed) {
         Ok(trips) => audit.add_trips(alloc, &mut found, &trips, &days)?,

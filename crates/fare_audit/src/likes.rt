@@ -1,14 +1,13 @@
-//! Stops and times of day that are alike to fare rules.
-ghost use Rattle.std.specs.Prelude.{◌≡◌, ◌≤◌, ◌<◌, ℕ, length, All, IfOk, IfSome, nat_le};
-ghost use Rattle.std.specs.List.Sorted.{IsNonDecreasingBy};
+//! Stops that are alike to fare rules.
+ghost use Rattle.std.specs.Prelude.{◌≡◌, length, IfOk, IfSome};
 ghost use Rattle.feed_rows.specs.FeedRows.{FeedRows};
 ghost use Rattle.feed_rows.specs.Legs.{stop_areas};
 ghost use Rattle.fare_areas.specs.BuiltAreas.{AreAreasOf};
-ghost use Rattle.fare_audit.specs.Likes.{areas_placed, AreFirsts, AreLikeStops, AreCutsOf, IsCutBefore};
+ghost use Rattle.fare_audit.specs.Likes.{areas_placed, AreFirsts, AreLikeStops};
 
-use crate::places::unfilled;
 use fare_areas::Areas;
 use feed_rows::Feed;
+use ride_cache::unfilled;
 use std::alloc::{AllocError, Global};
 use transit_base::{AreaId, StopId};
 
@@ -58,29 +57,4 @@ fn place_of(areas: &[AreaId]) -> Option<usize>
         [area] => Some(area.0 as usize + 1),
         _ => None,
     }
-}
-
-/// The times of day at which a timeframe starts or ends, ascending.
-///
-/// # Errors
-/// Want of memory.
-pub fn cuts_of(alloc: Global, feed: &Feed) -> Result<Vec<u32>, AllocError>
-    ensures { IfOk result (λ cuts. AreCutsOf feed.now cuts.items) }
-{
-    let mut cuts = Vec::new(alloc);
-    for row in feed.timeframes.items() {
-        cuts.push(row.start)?;
-        cuts.push(row.end)?;
-    }
-    cuts.sort_unstable_by_key(|cut| *cut);
-    Ok(cuts)
-}
-
-/// The last of the times of day by this one, and midnight where there is none.
-pub fn cut_before(cuts: &[u32], time: u32) -> u32
-    requires { IsNonDecreasingBy (λ (cut : ℕ). cut) cuts.now }
-    ensures { IsCutBefore cuts.now time result }
-{
-    let passed = cuts.partition_point(|cut| *cut <= time);
-    if passed == 0 { 0 } else { cuts[passed - 1] }
 }

@@ -1,12 +1,12 @@
 -- One move for each option, that costs least, is enough.
 use Rattle.std.proofs.Common.{◌≡◌, refl, sym, ◌∙◌, ap, subst, ℕ, zero, suc, ◌+◌, ◌<◌, Bool, true, false, not, List, [], ◌∷◌, ◌++◌, length, take, get_or, arith, ℤ, ◌+ℤ◌, ◌≤ℤ◌}
-use Rattle.std.specs.Prelude.{if◌then◌else◌, Option, Some, None, is_none, pos, map, option_map, slice_get, int_le, All, Contains, MatchOption}
+use Rattle.std.specs.Prelude.{if◌then◌else◌, Option, Some, None, is_none, pos, map, option_map, slice_get, All, Contains, MatchOption}
 use Rattle.std.specs.Option.{is_some}
 use Rattle.std.proofs.lemmas.Int.{ints}
-use Rattle.std.proofs.lemmas.List.{take_all, take_more, append-nil, length-map}
-use Rattle.std.proofs.lemmas.List.Elements.{All-append, All-contains, All-push, All-weaker, Contains-append_left, Contains-append_right}
-use Rattle.std.proofs.lemmas.Option.{same_Some, slice_get-get_or, slice_get-map, slice_get_within}
-use Rattle.transit_base.specs.declared.numbers.RiderId.{RiderId}
+use Rattle.std.proofs.lemmas.List.{take_all, append-nil, length-map}
+use Rattle.std.proofs.lemmas.List.Elements.{All-append, All-contains, All-weaker, Contains-append_left, Contains-append_right}
+use Rattle.std.proofs.lemmas.Option.{slice_get-get_or, slice_get-map}
+use Rattle.feed_rows.specs.declared.journeys.Buyer.{Buyer}
 use Rattle.feed_rows.specs.declared.fares.ChangeChoice.{ChangeChoice}
 use Rattle.feed_rows.specs.declared.fares.LegChoice.{LegChoice}
 use Rattle.feed_rows.specs.declared.journeys.LegFacts.{LegFacts}
@@ -14,12 +14,13 @@ use Rattle.feed_rows.specs.declared.rows.TransferRuleRow.{TransferRuleRow}
 use Rattle.feed_rows.specs.declared.states.FareState.{FareState}
 use Rattle.feed_rows.specs.declared.states.Move.{Move}
 use Rattle.feed_rows.specs.FeedRows.{FeedRows}
-use Rattle.feed_rows.specs.FareStands.{next_held, place_kind}
-use Rattle.feed_rows.specs.FareSteps.{is_arranged_after, is_place_after, is_row_after, move_after, next_move}
+use Rattle.feed_rows.specs.FareSteps.{next_held, place_kind, is_arranged_after, is_place_after, is_row_after, move_after, next_move}
 use Rattle.feed_rows.specs.FareSums.{amount_of}
 use Rattle.feed_rows.specs.TransferRules.{AskedChange, FareLeg}
+use Rattle.plain_laws.specs.Lesser.{IsLeastBy}
 use Rattle.plain_laws.specs.Plain.{filled_and, joined_below}
-use Rattle.plain_laws.proofs.Laws.{All-from, Contains-map, Contains-slice_get, filled_and-true, int_le-true, map-tells, no_item}
+use Rattle.plain_laws.proofs.LesserLaws.{lesser_more}
+use Rattle.plain_laws.proofs.Laws.{All-from, Contains-map, filled_and-true, map-tells}
 use Rattle.fare_laws.specs.BareMoves.{bare}
 use Rattle.fare_automaton.specs.Fewest.{AddsFewer, AreAlike, AreEnoughMoves, AreFewerMoves, HasLesserMove, IsLesserMove}
 use Rattle.fare_automaton.specs.declared.cheapest.PaidPlace.{PaidPlace}
@@ -34,57 +35,9 @@ use Rattle.fare_automaton.proofs.OptionLaws.{are_places, arranged_by}
 abbrev pub paid_of : PaidPlace → ℤ
 paid_of one = one.paid.0
 
--- it costs no more than each of the others
+-- it is one of all, and no more is paid by it than by each of the first of them
 abbrev pub IsLeastOf : List PaidPlace → List PaidPlace → PaidPlace → Type 0
-IsLeastOf all first x = Contains all x × All (λ y. paid_of x ≤ℤ paid_of y) first
-
--- the cheapest of those so far, and one more
-cheaper_more : (xs : List PaidPlace) (i : ℕ) (item : PaidPlace) (least : Option PaidPlace) → slice_get xs i ≡ Some item →
-    MatchOption least (i ≡ 0) (IsLeastOf xs (take i xs)) → IsLeastOf xs (take (i + 1) xs) (cheaper least item)
-cheaper_more xs i item least is before = by least before
-  where
-    here : Contains xs item
-    here = Contains-slice_get xs i item is
-
-    longer : take i xs ++ item ∷ [] ≡ take (i + 1) xs
-    longer =
-        let lt = slice_get_within xs i item is in
-        let same : get_or xs i item ≡ item = same_Some _ _ (sym (slice_get-get_or xs i item lt) ∙ is) in
-        ap (λ x. take i xs ++ x ∷ []) (sym same) ∙ sym (take_more xs i item lt)
-
-    itself : (x : ℤ) → x ≤ℤ x
-    itself x = omega (arith, ints)
-
-    more : (w : PaidPlace) → Contains xs w → All (λ y. paid_of w ≤ℤ paid_of y) (take i xs) → paid_of w ≤ℤ paid_of item →
-        IsLeastOf xs (take (i + 1) xs) w
-    more w at each le =
-        (at, subst (All (λ y. paid_of w ≤ℤ paid_of y)) longer (All-push (λ y. paid_of w ≤ℤ paid_of y) (take i xs) item each le))
-
-    through : (a b c : ℤ) → a ≤ℤ b → b ≤ℤ c → a ≤ℤ c
-    through a b c p q = omega (arith, ints, p, q)
-
-    less : (a b : ℤ) → int_le a b ≡ false → b ≤ℤ a
-    less a b e = grind (arith, ints)
-
-    choose : (w : PaidPlace) → IsLeastOf xs (take i xs) w → (b : Bool) → int_le (paid_of w) (paid_of item) ≡ b →
-        IsLeastOf xs (take (i + 1) xs) (if b then w else item)
-    choose w least true le = more w least.0 least.1 (int_le-true (paid_of w) (paid_of item) le)
-    choose w least false gt =
-        more item here
-        (All-weaker (λ y. paid_of w ≤ℤ paid_of y) (λ y. paid_of item ≤ℤ paid_of y)
-        (λ y le. through (paid_of item) (paid_of w) (paid_of y) (less (paid_of w) (paid_of item) gt) le) (take i xs) least.1)
-        (itself (paid_of item))
-
-    by : (o : Option PaidPlace) → MatchOption o (i ≡ 0) (IsLeastOf xs (take i xs)) →
-        IsLeastOf xs (take (i + 1) xs) (cheaper o item)
-    by None none = more item here (λ k e lt. absurd (no_less k e lt)) (itself (paid_of item))
-      where
-        no_less : (k : ℕ) (e : PaidPlace) → k < length (take i xs) → ⊥
-        no_less k e lt =
-            let none' : take i xs ≡ [] = ap (λ n. take n xs) none in
-            let lt' : k < 0 = subst (λ (ys : List PaidPlace). k < length ys) none' lt in
-            omega arith
-    by (Some w) least = choose w least (int_le (paid_of w) (paid_of item)) refl
+IsLeastOf = IsLeastBy paid_of
 
 module _ (feed : FeedRows) (held amount : ℤ) where
   abbrev pub with_paid : Option ChangeChoice → PaidPlace
@@ -104,7 +57,7 @@ module _ (feed : FeedRows) (held amount : ℤ) where
   pub least_more : (places : List (Option ChangeChoice)) (i : ℕ) (d : Option ChangeChoice) (least : Option PaidPlace) → i < length places →
       IsLeastSoFar places i least → IsLeastOf (map with_paid places) (take (i + 1) (map with_paid places)) (cheaper least (with_paid (get_or places i d)))
   least_more places i d least lt before =
-      cheaper_more (map with_paid places) i (with_paid (get_or places i d)) least
+      lesser_more paid_of (map with_paid places) i (with_paid (get_or places i d)) least
       (slice_get-map with_paid places i ∙ ap (option_map with_paid) (slice_get-get_or places i d lt)) before
 
   -- one of all
@@ -172,11 +125,11 @@ lesser_through a b c ab bc =
     through x y z p q = omega (arith, ints, p, q)
 
 -- fewer of enough moves are enough
-pub enough_fewer : (feed : FeedRows) (rider : Option RiderId) (state : Option FareState) (held : ℤ) (leg : LegFacts) (moves fewer : List Move) →
-    AreEnoughMoves feed rider state held leg moves → AreFewerMoves moves fewer → AreEnoughMoves feed rider state held leg fewer
-enough_fewer feed rider state held leg moves fewer are few = record {
-  right = All-weaker (Contains moves) (λ move. move_after feed rider state held leg move ≡ Some move)
-      (λ move at. All-contains (λ move. move_after feed rider state held leg move ≡ Some move) moves move are.right at) fewer few.from;
+pub enough_fewer : (feed : FeedRows) (buyer : Buyer) (state : Option FareState) (held : ℤ) (leg : LegFacts) (moves fewer : List Move) →
+    AreEnoughMoves feed buyer state held leg moves → AreFewerMoves moves fewer → AreEnoughMoves feed buyer state held leg fewer
+enough_fewer feed buyer state held leg moves fewer are few = record {
+  right = All-weaker (Contains moves) (λ move. move_after feed buyer state held leg move ≡ Some move)
+      (λ move at. All-contains (λ move. move_after feed buyer state held leg move ≡ Some move) moves move are.right at) fewer few.from;
   enough = λ move is.
       let first = are.enough move is in
       let less = All-contains (HasLesserMove fewer) moves first.0 few.each first.1 in
@@ -190,30 +143,30 @@ record Tells (feed : FeedRows) (arranged : Bool) (place : Option ChangeChoice) :
   pub filled : is_some place ≡ arranged
   pub kind : is_none (place_kind feed place) ≡ not arranged
 
-module _ (feed : FeedRows) (rider : Option RiderId) where
+module _ (feed : FeedRows) (buyer : Buyer) where
   unarranged : (b : Bool) → not b ≡ true → false ≡ b
   unarranged false e = refl
   unarranged true e = absurd (let no : false ≡ true = e in cc)
 
-  tells : (change : Option AskedChange) (place : Option ChangeChoice) → is_place_after feed rider change place ≡ true →
+  tells : (change : Option AskedChange) (place : Option ChangeChoice) → is_place_after feed buyer change place ≡ true →
       Tells feed (filled_and change (is_arranged_after feed)) place
   unfolding is_row_after
   tells change None holds = record { filled = unarranged _ holds; kind = sym holds }
   tells None (Some pick) holds = absurd (let no : false ≡ true = holds in cc)
   tells (Some change) (Some pick) holds =
       let row = filled_and-true (slice_get feed.transfer_rules pick.rule.0) _ holds in
-      let arranged = arranged_by feed rider change pick holds in
+      let arranged = arranged_by feed buyer change pick holds in
       record {
         filled = sym arranged;
         kind = ap (λ (o : Option TransferRuleRow). is_none (option_map (λ (r : TransferRuleRow). r.kind) o)) row.is ∙ ap not (sym arranged);
       }
 
   -- the places of a change are alike
-  pub places_alike : (change : Option AskedChange) (places : List (Option ChangeChoice)) → places ≡ place_list feed rider change → AreAlike feed places
+  pub places_alike : (change : Option AskedChange) (places : List (Option ChangeChoice)) → places ≡ place_list feed buyer change → AreAlike feed places
   places_alike change places is a b has_a has_b =
       let at = λ (place : Option ChangeChoice) (has : Contains places place).
       tells change place
-      (All-contains (λ p. is_place_after feed rider change p ≡ true) (place_list feed rider change) place (are_places feed rider change).right
+      (All-contains (λ p. is_place_after feed buyer change p ≡ true) (place_list feed buyer change) place (are_places feed buyer change).right
       (subst (λ (ps : List (Option ChangeChoice)). Contains ps place) is has)) in
       ((at a has_a).filled ∙ sym (at b has_b).filled, (at a has_a).kind ∙ sym (at b has_b).kind)
 

@@ -5,7 +5,7 @@ use Rattle.std.proofs.lemmas.Bool.{cases_lt}
 use Rattle.std.proofs.lemmas.Int.{ints}
 use Rattle.std.proofs.lemmas.Option.{same_Some}
 use Rattle.std.proofs.lemmas.List.Elements.{All-contains, All-push, All-weaker, Contains-append_left, Contains-push}
-use Rattle.transit_base.specs.declared.numbers.RiderId.{RiderId}
+use Rattle.feed_rows.specs.declared.journeys.Buyer.{Buyer}
 use Rattle.feed_rows.specs.declared.fares.ChangeChoice.{ChangeChoice}
 use Rattle.feed_rows.specs.declared.fares.LegChoice.{LegChoice}
 use Rattle.feed_rows.specs.declared.journeys.LegFacts.{LegFacts}
@@ -14,8 +14,7 @@ use Rattle.feed_rows.specs.declared.states.FareState.{FareState}
 use Rattle.feed_rows.specs.declared.states.Move.{Move}
 use Rattle.feed_rows.specs.FeedRows.{FeedRows}
 use Rattle.feed_rows.specs.FareChoices.{chosen_leg, is_leg_choice}
-use Rattle.feed_rows.specs.FareStands.{frees_first, frees_next, next_held, next_paid, place_charge, place_kind}
-use Rattle.feed_rows.specs.FareSteps.{asked_after, first_move, is_place_after, leg_taken, move_of_first, move_of_next, place_taken}
+use Rattle.feed_rows.specs.FareSteps.{frees_first, frees_next, next_held, next_paid, place_charge, place_kind, asked_after, first_move, is_place_after, leg_taken, move_of_first, move_of_next, place_taken}
 use Rattle.feed_rows.specs.FareSums.{amount_of}
 use Rattle.feed_rows.specs.TransferRules.{FareLeg}
 use Rattle.plain_laws.specs.Plain.{joined_below}
@@ -45,11 +44,11 @@ fewer-trans feed xs ys zs few less = record {
 }
 
 -- of all that can pay a leg, fewer are enough
-pub enough_of : (feed : FeedRows) (rider : Option RiderId) (leg : LegFacts) (picks fewer : List LegChoice) → ArePicks feed rider leg picks →
-    AreFewer feed picks fewer → AreEnough feed rider leg fewer
-enough_of feed rider leg picks fewer are few = record {
-  right = All-weaker (Contains picks) (λ pick. is_leg_choice feed rider leg pick ≡ true)
-      (λ pick at. All-contains (λ pick. is_leg_choice feed rider leg pick ≡ true) picks pick are.right at) fewer few.from;
+pub enough_of : (feed : FeedRows) (buyer : Buyer) (leg : LegFacts) (picks fewer : List LegChoice) → ArePicks feed buyer leg picks →
+    AreFewer feed picks fewer → AreEnough feed buyer leg fewer
+enough_of feed buyer leg picks fewer are few = record {
+  right = All-weaker (Contains picks) (λ pick. is_leg_choice feed buyer leg pick ≡ true)
+      (λ pick at. All-contains (λ pick. is_leg_choice feed buyer leg pick ≡ true) picks pick are.right at) fewer few.from;
   enough = λ pick holds. All-contains (HasLesser feed fewer) picks pick few.each (are.all pick holds);
 }
 
@@ -100,11 +99,11 @@ chosen_by feed leg a b same =
     told None = refl
     told (Some rule) = refl
 
-module _ (feed : FeedRows) (rider : Option RiderId) (leg : LegFacts) (picks : List LegChoice) (are : AreEnough feed rider leg picks)
+module _ (feed : FeedRows) (buyer : Buyer) (leg : LegFacts) (picks : List LegChoice) (are : AreEnough feed buyer leg picks)
     (step : Move → Option Move) (made : LegChoice → List Move)
-    (each : (pick : LegChoice) → is_leg_choice feed rider leg pick ≡ true → AreOf step pick (made pick))
-    (judged : (move : Move) → step move ≡ Some move → is_leg_choice feed rider leg (leg_taken move) ≡ true)
-    (lesser : (move : Move) (pick : LegChoice) → step move ≡ Some move → is_leg_choice feed rider leg pick ≡ true →
+    (each : (pick : LegChoice) → is_leg_choice feed buyer leg pick ≡ true → AreOf step pick (made pick))
+    (judged : (move : Move) → step move ≡ Some move → is_leg_choice feed buyer leg (leg_taken move) ≡ true)
+    (lesser : (move : Move) (pick : LegChoice) → step move ≡ Some move → is_leg_choice feed buyer leg pick ≡ true →
     IsLesserPick feed pick (leg_taken move) →
     (other : Move) × (step other ≡ Some other) × (leg_taken other ≡ pick) × IsLesserMove other move) where
   -- beside each move stands one that is made and no dearer
@@ -112,35 +111,35 @@ module _ (feed : FeedRows) (rider : Option RiderId) (leg : LegFacts) (picks : Li
       (other : Move) × Contains (joined_below (length picks) (made_at made picks)) other × IsLesserMove other move
   enough_made move is =
       let less = are.enough (leg_taken move) (judged move is) in
-      let paid = All-contains (λ pick. is_leg_choice feed rider leg pick ≡ true) picks less.0 are.right less.1 in
+      let paid = All-contains (λ pick. is_leg_choice feed buyer leg pick ≡ true) picks less.0 are.right less.1 in
       let other = lesser move less.0 is paid less.2 in
-      (other.0, made_in feed rider leg picks are.right step made each less.0 less.1 other.0 other.1 other.2, other.3)
+      (other.0, made_in feed buyer leg picks are.right step made each less.0 less.1 other.0 other.1 other.2, other.3)
 
-module _ (feed : FeedRows) (rider : Option RiderId) (leg : LegFacts) where
+module _ (feed : FeedRows) (buyer : Buyer) (leg : LegFacts) where
   -- a first leg by an option that costs no more
-  lesser_first : (move : Move) (pick : LegChoice) → move_of_first feed rider leg move ≡ Some move → is_leg_choice feed rider leg pick ≡ true →
+  lesser_first : (move : Move) (pick : LegChoice) → move_of_first feed buyer leg move ≡ Some move → is_leg_choice feed buyer leg pick ≡ true →
       IsLesserPick feed pick (leg_taken move) →
-      (other : Move) × (move_of_first feed rider leg other ≡ Some other) × (leg_taken other ≡ pick) × IsLesserMove other move
+      (other : Move) × (move_of_first feed buyer leg other ≡ Some other) × (leg_taken other ≡ pick) × IsLesserMove other move
   lesser_first move pick is paid less =
-      let m = first_tells feed rider leg move is in
+      let m = first_tells feed buyer leg move is in
       let chosen = chosen_by feed leg pick (leg_taken move) less.group ∙ m.chosen in
       let other = first_move feed m.first (bare pick None) in
       let le = less.amount in (
         other,
-        sym (first_when feed rider leg other m.first true chosen (rw paid refl)),
+        sym (first_when feed buyer leg other m.first true chosen (rw paid refl)),
         refl,
         subst (IsLesserMove other) m.follows
             (record { state = refl; paid = omega (arith, ints); price = omega (arith, ints, le) }),
       )
 
-  pub starts_enough : (picks : List LegChoice) (moves : List Move) → AreEnough feed rider leg picks →
-      moves ≡ joined_below (length picks) (made_at (first_made feed (times_of leg)) picks) → AreEnoughMoves feed rider None (pos 0) leg moves
+  pub starts_enough : (picks : List LegChoice) (moves : List Move) → AreEnough feed buyer leg picks →
+      moves ≡ joined_below (length picks) (made_at (first_made feed (times_of leg)) picks) → AreEnoughMoves feed buyer None (pos 0) leg moves
   starts_enough picks moves are is =
-      subst (AreEnoughMoves feed rider None (pos 0) leg) (sym is)
+      subst (AreEnoughMoves feed buyer None (pos 0) leg) (sym is)
       (record {
-        right = right_made feed rider leg picks are.right (move_of_first feed rider leg) (first_made feed (times_of leg)) (first_of feed rider leg);
-        enough = enough_made feed rider leg picks are (move_of_first feed rider leg) (first_made feed (times_of leg)) (first_of feed rider leg)
-            (λ move e. (first_tells feed rider leg move e).paid_leg) lesser_first;
+        right = right_made feed buyer leg picks are.right (move_of_first feed buyer leg) (first_made feed (times_of leg)) (first_of feed buyer leg);
+        enough = enough_made feed buyer leg picks are (move_of_first feed buyer leg) (first_made feed (times_of leg)) (first_of feed buyer leg)
+            (λ move e. (first_tells feed buyer leg move e).paid_leg) lesser_first;
       })
 
 -- what is paid and what is held grow with the amount
@@ -156,10 +155,10 @@ costs kind held charge a b le = by (is_none kind) (frees_next kind) (pos 0 +ℤ 
     by false true p = (omega (arith, ints), omega (arith, ints))
     by false false p = (omega (arith, ints, le), omega (arith, ints, le))
 
-module _ (feed : FeedRows) (rider : Option RiderId) (state : FareState) (held : ℤ) (leg : LegFacts) where
+module _ (feed : FeedRows) (buyer : Buyer) (state : FareState) (held : ℤ) (leg : LegFacts) where
   -- the same place with an option that costs no more
   lesser_full : (next : FareLeg) (pick own : LegChoice) (place : Option ChangeChoice) → amount_of feed pick.product ≤ℤ amount_of feed own.product →
-      IsLesserMove (full feed rider state held leg next pick place) (full feed rider state held leg next own place)
+      IsLesserMove (full feed buyer state held leg next pick place) (full feed buyer state held leg next own place)
   lesser_full next pick own None le =
       let c = costs (place_kind feed None) held (place_charge feed None) _ _ le in
       record { state = refl; paid = c.0; price = c.1 }
@@ -168,31 +167,31 @@ module _ (feed : FeedRows) (rider : Option RiderId) (state : FareState) (held : 
       record { state = refl; paid = c.0; price = c.1 }
 
   -- a leg after the state by an option that costs no more, with the same place of the change
-  lesser_next : (move : Move) (pick : LegChoice) → move_of_next feed rider state held leg move ≡ Some move →
-      is_leg_choice feed rider leg pick ≡ true → IsLesserPick feed pick (leg_taken move) →
-      (other : Move) × (move_of_next feed rider state held leg other ≡ Some other) × (leg_taken other ≡ pick) × IsLesserMove other move
+  lesser_next : (move : Move) (pick : LegChoice) → move_of_next feed buyer state held leg move ≡ Some move →
+      is_leg_choice feed buyer leg pick ≡ true → IsLesserPick feed pick (leg_taken move) →
+      (other : Move) × (move_of_next feed buyer state held leg other ≡ Some other) × (leg_taken other ≡ pick) × IsLesserMove other move
   lesser_next move pick is paid less =
-      let m = next_tells feed rider state held leg move is in
+      let m = next_tells feed buyer state held leg move is in
       let chosen = chosen_by feed leg pick (leg_taken move) less.group ∙ m.chosen in
       let place = place_taken move in
-      let other = full feed rider state held leg m.next pick place in (
+      let other = full feed buyer state held leg m.next pick place in (
         other,
-        sym (next_when feed rider leg other state held m.next true chosen
-            (all_true feed rider state held leg _ _ _ paid (ap (is_place_after feed rider (asked_after state m.next)) (place_of_bare pick place) ∙ m.right_place) (whole_bare pick place)))
-            ∙ ap Some (full_again feed rider state held leg m.next pick place),
+        sym (next_when feed buyer leg other state held m.next true chosen
+            (all_true feed buyer state held leg _ _ _ paid (ap (is_place_after feed buyer (asked_after state m.next)) (place_of_bare pick place) ∙ m.right_place) (whole_bare pick place)))
+            ∙ ap Some (full_again feed buyer state held leg m.next pick place),
         refl,
-        subst (IsLesserMove other) (sym (next_is_bare feed rider state held leg m.next move m.whole) ∙ m.follows)
+        subst (IsLesserMove other) (sym (next_is_bare feed buyer state held leg m.next move m.whole) ∙ m.follows)
             (lesser_full m.next pick (leg_taken move) place less.amount),
       )
 
-  pub steps_enough : (picks : List LegChoice) (moves : List Move) → AreEnough feed rider leg picks →
-      moves ≡ joined_below (length picks) (made_at (next_made feed rider state held (times_of leg)) picks) →
-      AreEnoughMoves feed rider (Some state) held leg moves
+  pub steps_enough : (picks : List LegChoice) (moves : List Move) → AreEnough feed buyer leg picks →
+      moves ≡ joined_below (length picks) (made_at (next_made feed buyer state held (times_of leg)) picks) →
+      AreEnoughMoves feed buyer (Some state) held leg moves
   steps_enough picks moves are is =
-      subst (AreEnoughMoves feed rider (Some state) held leg) (sym is)
+      subst (AreEnoughMoves feed buyer (Some state) held leg) (sym is)
       (record {
-        right = right_made feed rider leg picks are.right (move_of_next feed rider state held leg) (next_made feed rider state held (times_of leg))
-            (next_of feed rider state held leg);
-        enough = enough_made feed rider leg picks are (move_of_next feed rider state held leg) (next_made feed rider state held (times_of leg))
-            (next_of feed rider state held leg) (λ move e. (next_tells feed rider state held leg move e).paid_leg) lesser_next;
+        right = right_made feed buyer leg picks are.right (move_of_next feed buyer state held leg) (next_made feed buyer state held (times_of leg))
+            (next_of feed buyer state held leg);
+        enough = enough_made feed buyer leg picks are (move_of_next feed buyer state held leg) (next_made feed buyer state held (times_of leg))
+            (next_of feed buyer state held leg) (λ move e. (next_tells feed buyer state held leg move e).paid_leg) lesser_next;
       })

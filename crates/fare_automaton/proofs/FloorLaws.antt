@@ -1,12 +1,12 @@
 -- The least of amounts, row by row, and its bounds.
 use Rattle.std.proofs.Common.{◌≡◌, refl, sym, ◌∙◌, ap, ℕ, suc, ◌+◌, ◌<◌, ◌≤◌, ◌^◌, Bool, true, false, List, [], ◌∷◌, ◌++◌, take, get_or, length, arith, cond}
-use Rattle.std.specs.Prelude.{if◌then◌else◌, ℤ, pos, ◌+ℤ◌, nat_abs, int_lt, slice_get, map, fold, Option, Some}
+use Rattle.std.specs.Prelude.{if◌then◌else◌, ℤ, pos, ◌+ℤ◌, nat_abs, int_lt, slice_get, map, fold, Some}
 use Rattle.std.specs.Int.{int_min}
 use Rattle.std.proofs.lemmas.Int.{ints}
 use Rattle.std.proofs.Math.Seq.{take-suc}
 use Rattle.std.proofs.lemmas.List.Sums.{fold-append}
 use Rattle.std.proofs.lemmas.List.{map-append}
-use Rattle.transit_base.specs.declared.numbers.RiderId.{RiderId}
+use Rattle.feed_rows.specs.declared.journeys.Buyer.{Buyer}
 use Rattle.feed_rows.specs.declared.rows.ProductRow.{ProductRow}
 use Rattle.feed_rows.specs.declared.rows.LegRuleRow.{LegRuleRow}
 use Rattle.feed_rows.specs.declared.rows.TransferRuleRow.{TransferRuleRow}
@@ -70,13 +70,13 @@ parts_low inside rows test a sound same is =
     rw (is, same) (least_amount-low inside test sound)
 
 -- the floor is the sum of both parts
-pub floor_of_parts : (feed inside : FeedRows) (rider : Option RiderId) (rows : List ProductRow) (legs : List LegRuleRow)
+pub floor_of_parts : (feed inside : FeedRows) (buyer : Buyer) (rows : List ProductRow) (legs : List LegRuleRow)
     (changes : List TransferRuleRow) (a b : ℤ) → inside ≡ feed → rows ≡ inside.products → legs ≡ inside.leg_rules →
     changes ≡ inside.transfer_rules →
-    a ≡ least_amount (λ row. list_any (λ rule. is_open rule.product rider row) legs) rows →
-    b ≡ least_amount (λ row. list_any (λ rule. filled_and rule.product (λ product. is_open product rider row)) changes) rows →
-    a +ℤ b ≡ fare_floor feed rider
+    a ≡ least_amount (λ row. list_any (λ rule. is_open rule.product buyer row) legs) rows →
+    b ≡ least_amount (λ row. list_any (λ rule. filled_and rule.product (λ product. is_open product buyer row)) changes) rows →
+    a +ℤ b ≡ fare_floor feed buyer
 unfolding fare_floor
-floor_of_parts feed inside rider rows legs changes a b view same same_legs same_changes is_a is_b =
+floor_of_parts feed inside buyer rows legs changes a b view same same_legs same_changes is_a is_b =
     ap (λ (x : ℤ). x +ℤ b) (is_a ∙ rw (same, same_legs, view) refl)
-    ∙ ap (λ (y : ℤ). least_amount (is_for_legs feed rider) feed.products +ℤ y) (is_b ∙ rw (same, same_changes, view) refl)
+    ∙ ap (λ (y : ℤ). least_amount (is_for_legs feed buyer) feed.products +ℤ y) (is_b ∙ rw (same, same_changes, view) refl)

@@ -5,7 +5,7 @@ use Rattle.std.specs.declared.alloc.AllocError.{AllocError}
 use Rattle.std.proofs.lemmas.List.Elements.{All-push}
 use Rattle.std.specs.Option.{option_map_or}
 use Rattle.std.proofs.lemmas.Option.{same_Some, slice_get_within}
-use Rattle.transit_base.specs.declared.numbers.RiderId.{RiderId}
+use Rattle.feed_rows.specs.declared.journeys.Buyer.{Buyer}
 use Rattle.feed_rows.specs.declared.fares.LegChoice.{LegChoice}
 use Rattle.feed_rows.specs.declared.journeys.LegFacts.{LegFacts}
 use Rattle.feed_rows.specs.FeedRows.{FeedRows}
@@ -18,36 +18,36 @@ use Rattle.fare_automaton.specs.Terms.{FareTerms}
 use Rattle.fare_automaton.specs.Known.{HasPicks}
 
 -- moments decide nothing
-timeless_choice : (feed : FeedRows) (rider : Option RiderId) (leg : LegFacts) (pick : LegChoice) →
-    is_leg_choice feed rider (timeless leg) pick ≡ is_leg_choice feed rider leg pick
+timeless_choice : (feed : FeedRows) (buyer : Buyer) (leg : LegFacts) (pick : LegChoice) →
+    is_leg_choice feed buyer (timeless leg) pick ≡ is_leg_choice feed buyer leg pick
 unfolding is_leg_choice is_selected_rule rule_matches is_top_priority
-timeless_choice feed rider leg pick = refl
+timeless_choice feed buyer leg pick = refl
 
-pub with_moments : (feed : FeedRows) (rider : Option RiderId) (leg : LegFacts) (picks : List LegChoice) →
-    AreEnough feed rider (timeless leg) picks → AreEnough feed rider leg picks
-with_moments feed rider leg picks are = record {
-  right = λ k d lt. sym (timeless_choice feed rider leg _) ∙ are.right k d lt;
-  enough = λ pick holds. are.enough pick (timeless_choice feed rider leg pick ∙ holds);
+pub with_moments : (feed : FeedRows) (buyer : Buyer) (leg : LegFacts) (picks : List LegChoice) →
+    AreEnough feed buyer (timeless leg) picks → AreEnough feed buyer leg picks
+with_moments feed buyer leg picks are = record {
+  right = λ k d lt. sym (timeless_choice feed buyer leg _) ∙ are.right k d lt;
+  enough = λ pick holds. are.enough pick (timeless_choice feed buyer leg pick ∙ holds);
 }
 
-pub without_moments : (feed : FeedRows) (rider : Option RiderId) (leg : LegFacts) (picks : List LegChoice) →
-    AreEnough feed rider leg picks → AreEnough feed rider (timeless leg) picks
-without_moments feed rider leg picks are = record {
-  right = λ k d lt. timeless_choice feed rider leg _ ∙ are.right k d lt;
-  enough = λ pick holds. are.enough pick (sym (timeless_choice feed rider leg pick) ∙ holds);
+pub without_moments : (feed : FeedRows) (buyer : Buyer) (leg : LegFacts) (picks : List LegChoice) →
+    AreEnough feed buyer leg picks → AreEnough feed buyer (timeless leg) picks
+without_moments feed buyer leg picks are = record {
+  right = λ k d lt. timeless_choice feed buyer leg _ ∙ are.right k d lt;
+  enough = λ pick holds. are.enough pick (sym (timeless_choice feed buyer leg pick) ∙ holds);
 }
 
 -- what is kept for legs of a kind is enough for each of them
 pub picks_kept : (terms : FareTerms) (lists : List (KindList LegChoice)) (leg : LegFacts) (number : ℕ) → All (HasPicks terms) lists → IsOfKind lists leg number
-    → AreEnough terms.feed terms.rider leg (items_at lists number)
+    → AreEnough terms.feed terms.buyer leg (items_at lists number)
 picks_kept terms lists leg number all kind = by (slice_get lists number) refl kind
   where
     by : (o : Option (KindList LegChoice)) → slice_get lists number ≡ o → option_map (λ (l : KindList LegChoice). l.kind) o ≡ Some (timeless leg)
-        → AreEnough terms.feed terms.rider leg (option_map_or (λ (l : KindList LegChoice). l.items) o [])
+        → AreEnough terms.feed terms.buyer leg (option_map_or (λ (l : KindList LegChoice). l.items) o [])
     by None at e = absurd (cc)
     by (Some own) at e =
-        with_moments terms.feed terms.rider leg own.items
-        (subst (λ (k : LegFacts). AreEnough terms.feed terms.rider k own.items) (same_Some own.kind (timeless leg) e)
+        with_moments terms.feed terms.buyer leg own.items
+        (subst (λ (k : LegFacts). AreEnough terms.feed terms.buyer k own.items) (same_Some own.kind (timeless leg) e)
         (All-slice_get (HasPicks terms) lists number own at all))
 
 -- a list that is kept last is of its kind

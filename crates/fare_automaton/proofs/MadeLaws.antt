@@ -5,8 +5,8 @@ use Rattle.std.specs.Option.{option_map_or}
 use Rattle.std.proofs.lemmas.Option.{same_Some, none-some, slice_get_within, slice_get-map, slice_get-get_or}
 use Rattle.std.proofs.lemmas.List.{length-map}
 use Rattle.transit_base.specs.declared.numbers.ProductRowId.{ProductRowId}
-use Rattle.transit_base.specs.declared.numbers.RiderId.{RiderId}
 use Rattle.transit_base.specs.declared.numbers.XferId.{XferId}
+use Rattle.feed_rows.specs.declared.journeys.Buyer.{Buyer}
 use Rattle.feed_rows.specs.declared.fares.ChangeChoice.{ChangeChoice}
 use Rattle.feed_rows.specs.declared.fares.LegChoice.{LegChoice}
 use Rattle.feed_rows.specs.declared.journeys.LegFacts.{LegFacts}
@@ -53,12 +53,12 @@ record AreAll (step : Move → Option Move) (moves : List Move) : Type 0 where
   pub all : (move : Move) → step move ≡ Some move → Contains moves move
   pub once : AllPairs (λ a b. a ≢ b) moves
 
-module _ (feed : FeedRows) (rider : Option RiderId) (leg : LegFacts) (picks : List LegChoice)
-    (right : All (λ pick. is_leg_choice feed rider leg pick ≡ true) picks) (step : Move → Option Move) (made : LegChoice → List Move)
-    (each : (pick : LegChoice) → is_leg_choice feed rider leg pick ≡ true → AreOf step pick (made pick)) where
+module _ (feed : FeedRows) (buyer : Buyer) (leg : LegFacts) (picks : List LegChoice)
+    (right : All (λ pick. is_leg_choice feed buyer leg pick ≡ true) picks) (step : Move → Option Move) (made : LegChoice → List Move)
+    (each : (pick : LegChoice) → is_leg_choice feed buyer leg pick ≡ true → AreOf step pick (made pick)) where
   -- the pick of a number
   at : (i : ℕ) (pick : LegChoice) → slice_get picks i ≡ Some pick → AreOf step pick (made pick)
-  at i pick is = each pick (All-slice_get (λ (p : LegChoice). is_leg_choice feed rider leg p ≡ true) picks i pick is right)
+  at i pick is = each pick (All-slice_get (λ (p : LegChoice). is_leg_choice feed buyer leg p ≡ true) picks i pick is right)
 
   -- a move of a number
   tells : (i : ℕ) (move : Move) → Contains (made_at made picks i) move →
@@ -86,16 +86,16 @@ module _ (feed : FeedRows) (rider : Option RiderId) (leg : LegFacts) (picks : Li
       Contains-joined_below (length picks) (made_at made picks) place.0 m (slice_get_within picks place.0 pick place.1)
       (subst (λ (xs : List Move). Contains xs m) (sym (made_of made picks place.0 pick place.1)) ((at place.0 pick place.1).all m is same))
 
-module _ (feed : FeedRows) (rider : Option RiderId) (leg : LegFacts) (picks : List LegChoice) (are : ArePicks feed rider leg picks)
+module _ (feed : FeedRows) (buyer : Buyer) (leg : LegFacts) (picks : List LegChoice) (are : ArePicks feed buyer leg picks)
     (step : Move → Option Move) (made : LegChoice → List Move)
-    (each : (pick : LegChoice) → is_leg_choice feed rider leg pick ≡ true → AreOf step pick (made pick))
-    (judged : (move : Move) → step move ≡ Some move → is_leg_choice feed rider leg (leg_taken move) ≡ true) where
+    (each : (pick : LegChoice) → is_leg_choice feed buyer leg pick ≡ true → AreOf step pick (made pick))
+    (judged : (move : Move) → step move ≡ Some move → is_leg_choice feed buyer leg (leg_taken move) ≡ true) where
   once_at : (i : ℕ) → AllPairs (λ (a b : Move). a ≢ b) (made_at made picks i)
   once_at i = by (slice_get picks i) refl
     where
       by : (o : Option LegChoice) → slice_get picks i ≡ o → AllPairs (λ (a b : Move). a ≢ b) (option_map_or made o [])
       by None is = λ a b d lt lt'. absurd (omega (arith, lt'))
-      by (Some pick) is = (at feed rider leg picks are.right step made each i pick is).once
+      by (Some pick) is = (at feed buyer leg picks are.right step made each i pick is).once
 
   -- two numbers have two picks
   apart : (i j : ℕ) (pick : LegChoice) → i < j → slice_get picks i ≡ Some pick → slice_get picks j ≡ Some pick → ⊥
@@ -107,19 +107,19 @@ module _ (feed : FeedRows) (rider : Option RiderId) (leg : LegFacts) (picks : Li
   -- what is made pick by pick is all that there is
   all_made : AreAll step (joined_below (length picks) (made_at made picks))
   all_made = record {
-    right = right_made feed rider leg picks are.right step made each;
-    all = λ m is. made_in feed rider leg picks are.right step made each (leg_taken m) (are.all (leg_taken m) (judged m is)) m is refl;
+    right = right_made feed buyer leg picks are.right step made each;
+    all = λ m is. made_in feed buyer leg picks are.right step made each (leg_taken m) (are.all (leg_taken m) (judged m is)) m is refl;
     once = AllPairs-joined_below (λ (a b : Move). a ≢ b) (length picks) (made_at made picks) (λ i lt. once_at i)
         (λ i j x y lt lt' c c' same.
-        let a = tells feed rider leg picks are.right step made each i x c in
-        let b = tells feed rider leg picks are.right step made each j y c' in
+        let a = tells feed buyer leg picks are.right step made each i x c in
+        let b = tells feed buyer leg picks are.right step made each j y c' in
         apart i j (leg_taken x) lt a.0 (b.0 ∙ ap (λ (m : Move). Some (leg_taken m)) (sym same)));
   }
 
 -- ---- a first leg
 
-module _ (feed : FeedRows) (rider : Option RiderId) (leg : LegFacts) where
-  pub first_of : (pick : LegChoice) → is_leg_choice feed rider leg pick ≡ true → AreOf (move_of_first feed rider leg) pick (first_made feed (times_of leg) pick)
+module _ (feed : FeedRows) (buyer : Buyer) (leg : LegFacts) where
+  pub first_of : (pick : LegChoice) → is_leg_choice feed buyer leg pick ≡ true → AreOf (move_of_first feed buyer leg) pick (first_made feed (times_of leg) pick)
   first_of pick paid = by (chosen_leg feed leg pick) refl
     where
       only : (m x : Move) → Contains (m ∷ []) x → m ≡ x
@@ -127,21 +127,21 @@ module _ (feed : FeedRows) (rider : Option RiderId) (leg : LegFacts) where
       only m x (suc k, lt, is) = absurd (omega (arith, lt))
 
       by : (o : Option FareLeg) → chosen_leg feed leg pick ≡ o →
-          AreOf (move_of_first feed rider leg) pick (option_map_or (λ first. first_move feed first (bare pick None) ∷ []) o [])
+          AreOf (move_of_first feed buyer leg) pick (option_map_or (λ first. first_move feed first (bare pick None) ∷ []) o [])
       by None chosen = record {
         right = λ move (k, lt, e). absurd (omega (arith, lt));
-        all = λ move is same. let m = first_tells feed rider leg move is in absurd (none-some m.first (sym chosen ∙ ap (chosen_leg feed leg) (sym same) ∙ m.chosen));
+        all = λ move is same. let m = first_tells feed buyer leg move is in absurd (none-some m.first (sym chosen ∙ ap (chosen_leg feed leg) (sym same) ∙ m.chosen));
         once = λ i j d lt lt'. absurd (omega (arith, lt'));
       }
       by (Some first) chosen = record {
         right = λ move c.
             let same = only (first_move feed first (bare pick None)) move c in (
               ap leg_taken (sym same),
-              subst (λ (m : Move). move_of_first feed rider leg m ≡ Some m) same
-                  (sym (first_when feed rider leg (first_move feed first (bare pick None)) first true chosen (rw paid refl))),
+              subst (λ (m : Move). move_of_first feed buyer leg m ≡ Some m) same
+                  (sym (first_when feed buyer leg (first_move feed first (bare pick None)) first true chosen (rw paid refl))),
             );
         all = λ move is same.
-            let m = first_tells feed rider leg move is in
+            let m = first_tells feed buyer leg move is in
             let legs : m.first ≡ first = same_Some m.first first (sym m.chosen ∙ ap (chosen_leg feed leg) same ∙ chosen) in (
               0,
               omega arith,
@@ -151,11 +151,11 @@ module _ (feed : FeedRows) (rider : Option RiderId) (leg : LegFacts) where
         once = λ i j d lt lt'. absurd (omega (arith, lt, lt'));
       }
 
-  pub starts_are : (picks : List LegChoice) (moves : List Move) → ArePicks feed rider leg picks →
-      moves ≡ joined_below (length picks) (made_at (first_made feed (times_of leg)) picks) → AreMovesAfter feed rider None (pos 0) leg moves
+  pub starts_are : (picks : List LegChoice) (moves : List Move) → ArePicks feed buyer leg picks →
+      moves ≡ joined_below (length picks) (made_at (first_made feed (times_of leg)) picks) → AreMovesAfter feed buyer None (pos 0) leg moves
   starts_are picks moves are is =
-      subst (AreMovesAfter feed rider None (pos 0) leg) (sym is)
-      (let all = all_made feed rider leg picks are (move_of_first feed rider leg) (first_made feed (times_of leg)) first_of (λ move e. (first_tells feed rider leg move e).paid_leg) in
+      subst (AreMovesAfter feed buyer None (pos 0) leg) (sym is)
+      (let all = all_made feed buyer leg picks are (move_of_first feed buyer leg) (first_made feed (times_of leg)) first_of (λ move e. (first_tells feed buyer leg move e).paid_leg) in
       record { right = all.right; all = all.all; once = all.once })
 
 -- ---- a leg after a state
@@ -194,7 +194,7 @@ once_map {X} {Y} g back xs same once i j d lt lt' equal =
         once i j x lt within
         (same_Some _ _ (sym (slice_get-get_or xs i x (omega (arith, lt, within))) ∙ is ∙ ap Some items ∙ sym is' ∙ slice_get-get_or xs j x within))
 
-module _ (feed : FeedRows) (rider : Option RiderId) (state : FareState) (held : ℤ) (leg : LegFacts) where
+module _ (feed : FeedRows) (buyer : Buyer) (state : FareState) (held : ℤ) (leg : LegFacts) where
   -- a whole move takes what a bare one does
   pub next_is_bare : (next : FareLeg) (move : Move) → is_whole move ≡ true →
       next_move feed state held next move ≡ next_move feed state held next (bare (leg_taken move) (place_taken move))
@@ -218,51 +218,51 @@ module _ (feed : FeedRows) (rider : Option RiderId) (state : FareState) (held : 
   pub all_true : (a b c : Bool) → a ≡ true → b ≡ true → c ≡ true → true ≡ (a && b && c)
   all_true a b c e f g = rw (e, f, g) refl
 
-  pub next_of : (pick : LegChoice) → is_leg_choice feed rider leg pick ≡ true → AreOf (move_of_next feed rider state held leg) pick (next_made feed rider state held (times_of leg) pick)
+  pub next_of : (pick : LegChoice) → is_leg_choice feed buyer leg pick ≡ true → AreOf (move_of_next feed buyer state held leg) pick (next_made feed buyer state held (times_of leg) pick)
   next_of pick paid = by (chosen_leg feed leg pick) refl
     where
       by : (o : Option FareLeg) → chosen_leg feed leg pick ≡ o →
-          AreOf (move_of_next feed rider state held leg) pick
-          (option_map_or (λ next. map (full next pick) (place_list feed rider (asked_after state next))) o [])
+          AreOf (move_of_next feed buyer state held leg) pick
+          (option_map_or (λ next. map (full next pick) (place_list feed buyer (asked_after state next))) o [])
       by None chosen = record {
         right = λ move (k, lt, e). absurd (omega (arith, lt));
-        all = λ move is same. let m = next_tells feed rider state held leg move is in absurd (none-some m.next (sym chosen ∙ ap (chosen_leg feed leg) (sym same) ∙ m.chosen));
+        all = λ move is same. let m = next_tells feed buyer state held leg move is in absurd (none-some m.next (sym chosen ∙ ap (chosen_leg feed leg) (sym same) ∙ m.chosen));
         once = λ i j d lt lt'. absurd (omega (arith, lt'));
       }
       by (Some next) chosen =
-          let places = are_places feed rider (asked_after state next) in
+          let places = are_places feed buyer (asked_after state next) in
           record {
             right = λ move c.
-                let f = map-tells (full next pick) (place_list feed rider (asked_after state next)) move c in
-                let at = slice_get-Contains (place_list feed rider (asked_after state next)) f.0 f.1 in
-                let right_place = All-slice_get (λ (p : Option ChangeChoice). is_place_after feed rider (asked_after state next) p ≡ true) (place_list feed rider (asked_after state next)) at.0 f.0 at.1 places.right in (
+                let f = map-tells (full next pick) (place_list feed buyer (asked_after state next)) move c in
+                let at = slice_get-Contains (place_list feed buyer (asked_after state next)) f.0 f.1 in
+                let right_place = All-slice_get (λ (p : Option ChangeChoice). is_place_after feed buyer (asked_after state next) p ≡ true) (place_list feed buyer (asked_after state next)) at.0 f.0 at.1 places.right in (
                   ap leg_taken (sym f.2),
-                  subst (λ (m : Move). move_of_next feed rider state held leg m ≡ Some m) f.2
-                      (sym (next_when feed rider leg (full next pick f.0) state held next true chosen
-                      (all_true _ _ _ paid (ap (is_place_after feed rider (asked_after state next)) (place_of_bare pick f.0) ∙ right_place) (whole_bare pick f.0)))
+                  subst (λ (m : Move). move_of_next feed buyer state held leg m ≡ Some m) f.2
+                      (sym (next_when feed buyer leg (full next pick f.0) state held next true chosen
+                      (all_true _ _ _ paid (ap (is_place_after feed buyer (asked_after state next)) (place_of_bare pick f.0) ∙ right_place) (whole_bare pick f.0)))
                       ∙ ap Some (full_again next pick f.0)),
                 );
             all = λ move is same.
-                let m = next_tells feed rider state held leg move is in
+                let m = next_tells feed buyer state held leg move is in
                 let legs : m.next ≡ next = same_Some m.next next (sym m.chosen ∙ ap (chosen_leg feed leg) same ∙ chosen) in
-                let right_place = subst (λ (x : FareLeg). is_place_after feed rider (asked_after state x) (place_taken move) ≡ true) legs m.right_place in
+                let right_place = subst (λ (x : FareLeg). is_place_after feed buyer (asked_after state x) (place_taken move) ≡ true) legs m.right_place in
                 let is_full : full next pick (place_taken move) ≡ move =
                 ap (λ (p : LegChoice). full next p (place_taken move)) (sym same) ∙ sym (next_is_bare next move m.whole)
                 ∙ ap (λ (x : FareLeg). next_move feed state held x move) (sym legs) ∙ m.follows in
-                subst (Contains (map (full next pick) (place_list feed rider (asked_after state next)))) is_full
-                (Contains-map (full next pick) (place_list feed rider (asked_after state next)) (place_taken move) (places.all (place_taken move) right_place));
-            once = once_map (full next pick) place_taken (place_list feed rider (asked_after state next)) (place_of_bare pick) places.once;
+                subst (Contains (map (full next pick) (place_list feed buyer (asked_after state next)))) is_full
+                (Contains-map (full next pick) (place_list feed buyer (asked_after state next)) (place_taken move) (places.all (place_taken move) right_place));
+            once = once_map (full next pick) place_taken (place_list feed buyer (asked_after state next)) (place_of_bare pick) places.once;
           }
 
-  pub steps_are : (picks : List LegChoice) (moves : List Move) → ArePicks feed rider leg picks →
-      moves ≡ joined_below (length picks) (made_at (next_made feed rider state held (times_of leg)) picks) → AreMovesAfter feed rider (Some state) held leg moves
+  pub steps_are : (picks : List LegChoice) (moves : List Move) → ArePicks feed buyer leg picks →
+      moves ≡ joined_below (length picks) (made_at (next_made feed buyer state held (times_of leg)) picks) → AreMovesAfter feed buyer (Some state) held leg moves
   steps_are picks moves are is =
-      subst (AreMovesAfter feed rider (Some state) held leg) (sym is)
-      (let all = all_made feed rider leg picks are (move_of_next feed rider state held leg) (next_made feed rider state held (times_of leg)) next_of (λ move e. (next_tells feed rider state held leg move e).paid_leg) in
+      subst (AreMovesAfter feed buyer (Some state) held leg) (sym is)
+      (let all = all_made feed buyer leg picks are (move_of_next feed buyer state held leg) (next_made feed buyer state held (times_of leg)) next_of (λ move e. (next_tells feed buyer state held leg move e).paid_leg) in
       record { right = all.right; all = all.all; once = all.once })
 
 -- a leg that was chosen has these moments
-module _ (feed : FeedRows) (rider : Option RiderId) (state : FareState) (held : ℤ) (times : LegTimes) where
+module _ (feed : FeedRows) (buyer : Buyer) (state : FareState) (held : ℤ) (times : LegTimes) where
   pub chosen_moments : (pick : LegChoice) (next : GroupedLeg) → Some (leg_of next) ≡ chosen_at feed times pick →
       leg_of next ≡ leg_by times next.group
   chosen_moments pick next is = by (slice_get feed.leg_rules pick.rule.0) is
@@ -276,10 +276,10 @@ module _ (feed : FeedRows) (rider : Option RiderId) (state : FareState) (held : 
 
   -- the moves by the places of the change to it
   pub made_by_places : (pick : LegChoice) (next : GroupedLeg) (places : List (Option ChangeChoice)) →
-      Some (leg_of next) ≡ chosen_at feed times pick → HasPlaces feed rider state times places next.group →
-      map (λ place. next_move feed state held (leg_of next) (bare pick place)) places ≡ next_made feed rider state held times pick
+      Some (leg_of next) ≡ chosen_at feed times pick → HasPlaces feed buyer state times places next.group →
+      map (λ place. next_move feed state held (leg_of next) (bare pick place)) places ≡ next_made feed buyer state held times pick
   made_by_places pick next places chosen has =
-      let places_of = λ (l : FareLeg). place_list feed rider (asked_after state l) in
+      let places_of = λ (l : FareLeg). place_list feed buyer (asked_after state l) in
       let by_places = λ (l : FareLeg). map (λ (place : Option ChangeChoice). next_move feed state held l (bare pick place)) in
       ap (by_places (leg_of next)) (has ∙ ap places_of (sym (chosen_moments pick next chosen)))
       ∙ ap (λ (o : Option FareLeg). option_map_or (λ l. by_places l (places_of l)) o []) chosen

@@ -11,7 +11,7 @@ use Rattle.std.proofs.lemmas.List.Sums.{fold-append}
 use Rattle.std.proofs.lemmas.Option.{same_Some, slice_get_past, slice_get_within, slice_get_cases}
 use Rattle.transit_base.specs.declared.numbers.LegGroupId.{LegGroupId}
 use Rattle.transit_base.specs.declared.numbers.ProductRowId.{ProductRowId}
-use Rattle.transit_base.specs.declared.numbers.RiderId.{RiderId}
+use Rattle.feed_rows.specs.declared.journeys.Buyer.{Buyer}
 use Rattle.feed_rows.specs.declared.rows.ProductRow.{ProductRow}
 use Rattle.feed_rows.specs.declared.rows.TransferRuleRow.{TransferRuleRow}
 use Rattle.feed_rows.specs.FeedRows.{FeedRows}
@@ -103,27 +103,27 @@ read_is feed reads group own are at =
 -- ---- products
 
 -- what is kept for each product below their number is kept for each product, since no row is of any other
-pub open_are : (feed inside : FeedRows) (rider : Option RiderId) (opened : List (List ProductRowId)) (n : ℕ) → inside ≡ feed → AreSoundProducts inside
-    → n ≡ length inside.product_names → opened ≡ list_below n (λ product. open_rows feed (record { 0 = product }) rider) → AreOpenRows feed rider opened
+pub open_are : (feed inside : FeedRows) (buyer : Buyer) (opened : List (List ProductRowId)) (n : ℕ) → inside ≡ feed → AreSoundProducts inside
+    → n ≡ length inside.product_names → opened ≡ list_below n (λ product. open_rows feed (record { 0 = product }) buyer) → AreOpenRows feed buyer opened
 unfolding is_open
-open_are feed inside rider opened n view sound count is product = step (cases_lt product.0 n)
+open_are feed inside buyer opened n view sound count is product = step (cases_lt product.0 n)
   where
     long : length opened ≡ n
-    long = ap length is ∙ length-list_below n (λ p. open_rows feed (record { 0 = p }) rider)
+    long = ap length is ∙ length-list_below n (λ p. open_rows feed (record { 0 = p }) buyer)
 
-    other : n ≤ product.0 → (row : ProductRow) → row.product.0 < length inside.product_names → is_open product rider row ≡ false
+    other : n ≤ product.0 → (row : ProductRow) → row.product.0 < length inside.product_names → is_open product buyer row ≡ false
     other past row lt =
         let apart : (row.product.0 == product.0) ≡ false = grind (arith, nat_tests, lt, past, count) in
         rw apart refl
 
-    fails : n ≤ product.0 → (i : ℕ) (o : Option ProductRow) → slice_get inside.products i ≡ o → filled_and o (is_open product rider) ≡ false
+    fails : n ≤ product.0 → (i : ℕ) (o : Option ProductRow) → slice_get inside.products i ≡ o → filled_and o (is_open product buyer) ≡ false
     fails past i None at = refl
     fails past i (Some row) at = other past row (All-slice_get (λ p. p.product.0 < length inside.product_names) inside.products i row at sound.names)
 
-    step : (product.0 < n) ⊎ (n ≤ product.0) → unwrap_or (slice_get opened product.0) [] ≡ open_rows feed product rider
+    step : (product.0 < n) ⊎ (n ≤ product.0) → unwrap_or (slice_get opened product.0) [] ≡ open_rows feed product buyer
     step (inl lt) =
-        ap (λ o. unwrap_or o []) (ap (λ os. slice_get os product.0) is ∙ slice_get-list_below n (λ p. open_rows feed (record { 0 = p }) rider) product.0 lt)
+        ap (λ o. unwrap_or o []) (ap (λ os. slice_get os product.0) is ∙ slice_get-list_below n (λ p. open_rows feed (record { 0 = p }) buyer) product.0 lt)
     step (inr past) =
         ap (λ o. unwrap_or o []) (slice_get_past opened product.0 (omega (arith, long, past)))
         ∙ sym (picks_below-none (length inside.products) _ (λ i. record { 0 = i }) (λ i lt. fails past i (slice_get inside.products i) refl))
-        ∙ ap (λ (f : FeedRows). open_rows f product rider) view
+        ∙ ap (λ (f : FeedRows). open_rows f product buyer) view

@@ -3,9 +3,7 @@ use Rattle.std.proofs.Common.{◌≡◌, refl, sym, ◌∙◌, ap, ℕ, Bool, tr
 use Rattle.std.specs.Prelude.{if◌then◌else◌, slice_get, is_some, nat_le, flat_map}
 use Rattle.std.specs.Option.{option_map_or}
 use Rattle.std.specs.List.{list_any, list_all}
-use Rattle.std.proofs.lemmas.List.Folds.{list_all_more, list_any_more}
-use Rattle.std.proofs.Common.{◌+◌, ◌<◌, take, get_or}
-use Rattle.transit_base.specs.declared.numbers.RiderId.{RiderId}
+use Rattle.feed_rows.specs.declared.journeys.Buyer.{Buyer}
 use Rattle.transit_base.specs.declared.numbers.XferId.{XferId}
 use Rattle.feed_rows.specs.declared.rows.TransferRuleRow.{TransferRuleRow}
 use Rattle.feed_rows.specs.FeedRows.{FeedRows}
@@ -20,22 +18,6 @@ use Rattle.fare_transfer_rules.specs.Counts.{is_within}
 use Rattle.fare_automaton.specs.Compiled.{suits, suits_at, not_above, not_above_at, is_chosen, AreLeast}
 use Rattle.fare_automaton.specs.Options.{product_places, row_places, chosen_places}
 use Rattle.fare_automaton.proofs.PickedLaws.{picked_all, picked_any, flat_map-picks}
-
--- the least count among one row more
-pub least_more : (feed : FeedRows) (change : AskedChange) (among : List ClassedRow) (i : ℕ) (d : ClassedRow) (least new : Option (Option ℕ)) → i < length among
-    → AreLeast feed change (take i among) least
-    → ((count : Option ℕ) → is_within new count ≡ (is_within least count && not_above_at feed change count (get_or among i d).row))
-    → is_some new ≡ (is_some least || suits_at feed change (get_or among i d).row) →
-    AreLeast feed change (take (i + 1) among) new
-least_more feed change among i d least new lt before within some =
-    record {
-      within = λ count.
-          within count ∙ ap (λ b. b && not_above_at feed change count (get_or among i d).row) (before.within count)
-          ∙ sym (list_all_more (λ (r : ClassedRow). not_above_at feed change count r.row) among i d lt);
-      some =
-          some ∙ ap (λ b. b || suits_at feed change (get_or among i d).row) before.some
-          ∙ sym (list_any_more (λ (r : ClassedRow). suits_at feed change r.row) among i d lt);
-    }
 
 -- what a row that suits or not adds to the least count
 module _ (feed : FeedRows) (change : AskedChange) (least : Option (Option ℕ)) (row : XferId) where
@@ -138,25 +120,25 @@ module _ (feed : FeedRows) (change : AskedChange) (among : List ClassedRow) (are
       turned false y z = refl
 
   -- the rows that are chosen give the places of those that are selected
-  pub places_are : (rider : Option RiderId) → flat_map (λ (r : ClassedRow). chosen_places feed rider change least r.row) among
-      ≡ joined_below (length feed.transfer_rules) (row_places feed rider change)
-  places_are rider =
-      ap (flat_map (λ (r : ClassedRow). chosen_places feed rider change least r.row)) are.are
+  pub places_are : (buyer : Buyer) → flat_map (λ (r : ClassedRow). chosen_places feed buyer change least r.row) among
+      ≡ joined_below (length feed.transfer_rules) (row_places feed buyer change)
+  places_are buyer =
+      ap (flat_map (λ (r : ClassedRow). chosen_places feed buyer change least r.row)) are.are
       ∙ flat_map-picks (length feed.transfer_rules) (λ i. at_and feed.transfer_rules i (is_between feed change.from change.to)) (row_to are.to_class)
-      (λ (r : ClassedRow). chosen_places feed rider change least r.row) (row_places feed rider change)
+      (λ (r : ClassedRow). chosen_places feed buyer change least r.row) (row_places feed buyer change)
       (λ i. by i (slice_get feed.transfer_rules i))
     where
       by_row : (i : ℕ) (row : TransferRuleRow) (b : Bool) → is_between feed change.from change.to row ≡ b
-          → (if b then (if is_chosen change least row then product_places feed rider i row.product else []) else [])
-          ≡ (if is_selected feed change row then product_places feed rider i row.product else [])
+          → (if b then (if is_chosen change least row then product_places feed buyer i row.product else []) else [])
+          ≡ (if is_selected feed change row then product_places feed buyer i row.product else [])
       by_row i row true holds =
-          ap (λ c. if c then product_places feed rider i row.product else [])
+          ap (λ c. if c then product_places feed buyer i row.product else [])
           (ap (λ c. c && is_within least row.count) (sym (inside row holds)) ∙ selected_is row)
       by_row i row false fails =
-          sym (ap (λ c. if c && is_least_count feed change row.count then product_places feed rider i row.product else []) (outside row fails))
+          sym (ap (λ c. if c && is_least_count feed change row.count then product_places feed buyer i row.product else []) (outside row fails))
 
       by : (i : ℕ) (o : Option TransferRuleRow)
-          → (if filled_and o (is_between feed change.from change.to) then option_map_or (λ row. if is_chosen change least row then product_places feed rider i row.product else []) o [] else [])
-          ≡ option_map_or (λ row. if is_selected feed change row then product_places feed rider i row.product else []) o []
+          → (if filled_and o (is_between feed change.from change.to) then option_map_or (λ row. if is_chosen change least row then product_places feed buyer i row.product else []) o [] else [])
+          ≡ option_map_or (λ row. if is_selected feed change row then product_places feed buyer i row.product else []) o []
       by i None = refl
       by i (Some row) = by_row i row (is_between feed change.from change.to row) refl

@@ -3,7 +3,6 @@ use Rattle.std.proofs.Common.{◌≡◌, refl, sym, ◌∙◌, ap, ℕ, ◌+◌,
 use Rattle.std.specs.Prelude.{if◌then◌else◌, is_none, min, ℤ, pos, ◌+ℤ◌}
 use Rattle.std.specs.Option.{is_some, option_map_or}
 use Rattle.std.proofs.lemmas.Bool.{and_parts}
-use Rattle.std.proofs.lemmas.Bool.Decides.{nat_tests}
 use Rattle.std.proofs.lemmas.Int.{ints}
 use Rattle.std.proofs.Math.Bool.{and-false}
 use Rattle.std.proofs.Common.{arith}
@@ -17,16 +16,9 @@ use Rattle.feed_rows.specs.TransferRules.{FareLeg, same_group}
 use Rattle.feed_rows.specs.FareStates.{greatest_count, capped_count, is_clock_read, counts_from_departure, counts_from_arrival, state_of_run}
 use Rattle.feed_rows.specs.FareSteps.{first_move, next_move, next_state}
 use Rattle.plain_laws.specs.Plain.{filled_and, when}
+use Rattle.feed_laws.proofs.FareLaws.{same_group-equal}
 use Rattle.fare_laws.specs.BareMoves.{bare}
 use Rattle.fare_automaton.specs.declared.reads.GroupReads.{GroupReads}
-
--- groups that are the same are equal
-one_group : (a b : Option LegGroupId) → same_group a b ≡ true → b ≡ a
-one_group None b e = absurd (let no : false ≡ true = e in cc)
-one_group (Some g) None e = absurd (let no : false ≡ true = e in cc)
-one_group (Some g) (Some h) e =
-    let same : h.0 ≡ g.0 = grind (arith, nat_tests, e) in
-    ap (λ k. Some (record { 0 = k })) same
 
 group_there : (a b : Option LegGroupId) → same_group a b ≡ true → is_some a ≡ true
 group_there None b e = e
@@ -90,7 +82,7 @@ module _ (feed : FeedRows) (state : FareState) (next : FareLeg) (place : Option 
       } ≡ either b
   by_parts true reads count departure arrival test =
       let both = and_parts (same_group state.group next.group) (is_some place) (sym test) in
-      let group = one_group state.group next.group both.0 in
+      let group = sym (same_group-equal state.group next.group both.0) in
       let greatest = count ∙ ap (λ (g : Option LegGroupId). option_map_or (greatest_count feed) g 0) group in
       let there = group_there state.group next.group both.0 in
       let changes = one_more feed state.group state.count reads.greatest_count there greatest in

@@ -1,8 +1,9 @@
 -- What is paid by the places of a change, and the cheapest of them.
-use Rattle.std.specs.Prelude.{if◌then◌else◌, Option, Some, None, ℤ, pos, int_le}
+use Rattle.std.specs.Prelude.{Option, ℤ, pos}
 use Rattle.feed_rows.specs.declared.fares.ChangeChoice.{ChangeChoice}
 use Rattle.feed_rows.specs.FeedRows.{FeedRows}
-use Rattle.feed_rows.specs.FareStands.{next_paid, place_charge, place_kind}
+use Rattle.feed_rows.specs.FareSteps.{next_paid, place_charge, place_kind}
+use Rattle.plain_laws.specs.Lesser.{lesser_by}
 use Rattle.fare_automaton.specs.declared.cheapest.PaidPlace.{PaidPlace}
 
 -- what a leg of this amount and the change to it by this place add to what was paid
@@ -15,5 +16,4 @@ paid_place feed held amount place = record { place = place; paid = record { 0 = 
 
 -- the place by which less is paid: the first, where it is the same by both
 abbrev pub cheaper : Option PaidPlace → PaidPlace → PaidPlace
-cheaper None one = one
-cheaper (Some other) one = if int_le other.paid.0 one.paid.0 then other else one
+cheaper = lesser_by (λ (one : PaidPlace). one.paid.0)

@@ -1,12 +1,12 @@
 -- What an automaton has at hand: what rows read of each leg group, and the open rows of each product.
-use Rattle.std.specs.Prelude.{◌≡◌, ℕ, ◌+◌, ◌*◌, Bool, ◌&&◌, ◌||◌, not, nat_le, nat_lt, is_some, List, [], length, slice_get, unwrap_or, Option, Some}
+use Rattle.std.specs.Prelude.{◌≡◌, ℕ, ◌+◌, ◌*◌, Bool, ◌&&◌, ◌||◌, not, nat_le, nat_lt, List, [], length, slice_get, unwrap_or, Option, Some}
 use Rattle.std.specs.Option.{option_map_or}
-use Rattle.std.specs.List.{list_any, list_all}
+use Rattle.std.specs.List.{list_any}
 use Rattle.transit_base.specs.declared.numbers.LegGroupId.{LegGroupId}
 use Rattle.transit_base.specs.declared.numbers.ProductId.{ProductId}
 use Rattle.transit_base.specs.declared.numbers.ProductRowId.{ProductRowId}
-use Rattle.transit_base.specs.declared.numbers.RiderId.{RiderId}
 use Rattle.transit_base.specs.declared.numbers.XferId.{XferId}
+use Rattle.feed_rows.specs.declared.journeys.Buyer.{Buyer}
 use Rattle.feed_rows.specs.declared.rows.TransferRuleRow.{TransferRuleRow}
 use Rattle.feed_rows.specs.FeedRows.{FeedRows}
 use Rattle.feed_rows.specs.FareChoices.{open_rows}
@@ -15,7 +15,7 @@ use Rattle.feed_rows.specs.TransferRules.{AskedChange, count_le}
 use Rattle.plain_laws.specs.Plain.{at_and, empty_or, filled_and, list_below, when}
 use Rattle.fare_transfer_rules.specs.declared.groups.ClassedRow.{ClassedRow}
 use Rattle.fare_transfer_rules.specs.BuiltTransferRules.{AreRowsBetween}
-use Rattle.fare_transfer_rules.specs.Counts.{is_within}
+use Rattle.fare_transfer_rules.specs.Counts.{IsLeastCount, is_within}
 use Rattle.fare_automaton.specs.declared.reads.Clock.{Clock}
 use Rattle.fare_automaton.specs.declared.reads.Clock.TheVariants.{Departure, Arrival}
 use Rattle.fare_automaton.specs.declared.reads.GroupReads.{GroupReads}
@@ -68,8 +68,8 @@ ArePairRows feed pairs =
 -- ---- products
 
 -- the table has the open rows of each product
-abbrev pub AreOpenRows : FeedRows → Option RiderId → List (List ProductRowId) → Type 0
-AreOpenRows feed rider opened = (product : ProductId) → unwrap_or (slice_get opened product.0) [] ≡ open_rows feed product rider
+abbrev pub AreOpenRows : FeedRows → Buyer → List (List ProductRowId) → Type 0
+AreOpenRows feed buyer opened = (product : ProductId) → unwrap_or (slice_get opened product.0) [] ≡ open_rows feed product buyer
 
 -- ---- rows for a change
 
@@ -87,12 +87,9 @@ not_above change count row = not (suits change row) || count_le count row.count
 abbrev pub not_above_at : FeedRows → AskedChange → Option ℕ → XferId → Bool
 not_above_at feed change count row = empty_or (slice_get feed.transfer_rules row.0) (not_above change count)
 
--- the least count of those among these rows that suit: no count is above it that none of these is below, and there is one
--- exactly where one of them suits
-pub record AreLeast (feed : FeedRows) (change : AskedChange) (among : List ClassedRow) (least : Option (Option ℕ)) : Type 0 where
-  pub within : (count : Option ℕ) →
-      is_within least count ≡ list_all (λ (r : ClassedRow). not_above_at feed change count r.row) among
-  pub some : is_some least ≡ list_any (λ (r : ClassedRow). suits_at feed change r.row) among
+-- the least count among those of these rows that suit
+abbrev pub AreLeast : FeedRows → AskedChange → List ClassedRow → Option (Option ℕ) → Type 0
+AreLeast feed change = IsLeastCount (not_above_at feed change) (suits_at feed change)
 
 -- the row suits, with the least count
 abbrev pub is_chosen : AskedChange → Option (Option ℕ) → TransferRuleRow → Bool

@@ -2,7 +2,7 @@
 use Rattle.std.specs.Prelude.{◌≡◌, true, List, ◌++◌, All, Contains, Option, Some, is_none, ℤ, ◌+ℤ◌, ◌≤ℤ◌, option_map, slice_get}
 use Rattle.std.specs.Option.{is_some}
 use Rattle.transit_base.specs.declared.numbers.LegGroupId.{LegGroupId}
-use Rattle.transit_base.specs.declared.numbers.RiderId.{RiderId}
+use Rattle.feed_rows.specs.declared.journeys.Buyer.{Buyer}
 use Rattle.feed_rows.specs.declared.fares.ChangeChoice.{ChangeChoice}
 use Rattle.feed_rows.specs.declared.fares.LegChoice.{LegChoice}
 use Rattle.feed_rows.specs.declared.journeys.LegFacts.{LegFacts}
@@ -10,8 +10,7 @@ use Rattle.feed_rows.specs.declared.states.FareState.{FareState}
 use Rattle.feed_rows.specs.declared.states.Move.{Move}
 use Rattle.feed_rows.specs.FeedRows.{FeedRows}
 use Rattle.feed_rows.specs.FareChoices.{is_leg_choice}
-use Rattle.feed_rows.specs.FareStands.{place_kind}
-use Rattle.feed_rows.specs.FareSteps.{move_after}
+use Rattle.feed_rows.specs.FareSteps.{place_kind, move_after}
 use Rattle.feed_rows.specs.FareSums.{amount_of}
 
 -- the leg group of the option's rule; none where there is no such rule
@@ -33,9 +32,9 @@ pub record AreFewer (feed : FeedRows) (picks fewer : List LegChoice) : Type 0 wh
   pub each : All (HasLesser feed fewer) picks
 
 -- they can pay the leg, and beside whatever can stands such a one
-pub record AreEnough (feed : FeedRows) (rider : Option RiderId) (leg : LegFacts) (picks : List LegChoice) : Type 0 where
-  pub right : All (λ pick. is_leg_choice feed rider leg pick ≡ true) picks
-  pub enough : (pick : LegChoice) → is_leg_choice feed rider leg pick ≡ true → HasLesser feed picks pick
+pub record AreEnough (feed : FeedRows) (buyer : Buyer) (leg : LegFacts) (picks : List LegChoice) : Type 0 where
+  pub right : All (λ pick. is_leg_choice feed buyer leg pick ≡ true) picks
+  pub enough : (pick : LegChoice) → is_leg_choice feed buyer leg pick ≡ true → HasLesser feed picks pick
 
 -- the one leads to the same state as the other, and neither pays more nor costs more
 pub record IsLesserMove (a b : Move) : Type 0 where
@@ -44,10 +43,10 @@ pub record IsLesserMove (a b : Move) : Type 0 where
   pub price : (a.paid.0 +ℤ a.held.0) ≤ℤ (b.paid.0 +ℤ b.held.0)
 
 -- there are these moves, and beside each that there is stands such a one
-pub record AreEnoughMoves (feed : FeedRows) (rider : Option RiderId) (state : Option FareState) (held : ℤ) (leg : LegFacts)
+pub record AreEnoughMoves (feed : FeedRows) (buyer : Buyer) (state : Option FareState) (held : ℤ) (leg : LegFacts)
     (moves : List Move) : Type 0 where
-  pub right : All (λ move. move_after feed rider state held leg move ≡ Some move) moves
-  pub enough : (move : Move) → move_after feed rider state held leg move ≡ Some move →
+  pub right : All (λ move. move_after feed buyer state held leg move ≡ Some move) moves
+  pub enough : (move : Move) → move_after feed buyer state held leg move ≡ Some move →
       (lesser : Move) × Contains moves lesser × IsLesserMove lesser move
 
 -- ---- fewer moves

@@ -5,7 +5,7 @@ use Rattle.leg_kinds.specs.Kinds.{KindList}
 use Rattle.fare_automaton.specs.Fewest.{AreEnough}
 use Rattle.fare_automaton.specs.Terms.{FareTerms}
 
--- a feed and a rider, and lists of what can be paid
+-- a feed and a buyer, and lists of what can be paid
 pub record KnownPicks : Type 0 where
   pub terms : FareTerms
   pub lists : List (KindList LegChoice)
@@ -15,4 +15,4 @@ known_of terms lists = record { terms = terms; lists = lists }
 
 -- what is kept is enough for the legs of its kind
 abbrev pub HasPicks : FareTerms → KindList LegChoice → Type 0
-HasPicks terms kept = AreEnough terms.feed terms.rider kept.kind kept.items
+HasPicks terms kept = AreEnough terms.feed terms.buyer kept.kind kept.items

@@ -3,8 +3,8 @@ use Rattle.std.specs.Prelude.{◌≡◌, ◌≢◌, ℕ, Bool, true, if◌then�
 use Rattle.std.specs.Option.{option_map_or}
 use Rattle.transit_base.specs.declared.numbers.LegGroupId.{LegGroupId}
 use Rattle.transit_base.specs.declared.numbers.ProductId.{ProductId}
-use Rattle.transit_base.specs.declared.numbers.RiderId.{RiderId}
 use Rattle.transit_base.specs.declared.numbers.XferId.{XferId}
+use Rattle.feed_rows.specs.declared.journeys.Buyer.{Buyer}
 use Rattle.feed_rows.specs.declared.fares.ChangeChoice.{ChangeChoice}
 use Rattle.feed_rows.specs.declared.fares.LegChoice.{LegChoice}
 use Rattle.feed_rows.specs.declared.journeys.LegFacts.{LegFacts}
@@ -24,37 +24,37 @@ use Rattle.fare_automaton.specs.Compiled.{is_chosen}
 -- ---- legs
 
 -- the choices are exactly those for the leg, each once
-pub record ArePicks (feed : FeedRows) (rider : Option RiderId) (leg : LegFacts) (picks : List LegChoice) : Type 0 where
-  pub right : All (λ pick. is_leg_choice feed rider leg pick ≡ true) picks
-  pub all : (pick : LegChoice) → is_leg_choice feed rider leg pick ≡ true → Contains picks pick
+pub record ArePicks (feed : FeedRows) (buyer : Buyer) (leg : LegFacts) (picks : List LegChoice) : Type 0 where
+  pub right : All (λ pick. is_leg_choice feed buyer leg pick ≡ true) picks
+  pub all : (pick : LegChoice) → is_leg_choice feed buyer leg pick ≡ true → Contains picks pick
   pub once : AllPairs (λ a b. a ≢ b) picks
 
 abbrev pub pick_of : ℕ → ℕ → LegChoice
 pick_of rule row = record { rule = record { 0 = rule }; product = record { 0 = row } }
 
 -- the row is an open row of the rule's product
-abbrev pub is_row_of : FeedRows → Option RiderId → ℕ → ℕ → Bool
-is_row_of feed rider rule row = at_and feed.leg_rules rule (λ r. at_and feed.products row (is_open r.product rider))
+abbrev pub is_row_of : FeedRows → Buyer → ℕ → ℕ → Bool
+is_row_of feed buyer rule row = at_and feed.leg_rules rule (λ r. at_and feed.products row (is_open r.product buyer))
 
 -- the choice of the row, where it is such
-abbrev pub pick_if : FeedRows → Option RiderId → ℕ → ℕ → List LegChoice
-pick_if feed rider rule row = if is_row_of feed rider rule row then pick_of rule row ∷ [] else []
+abbrev pub pick_if : FeedRows → Buyer → ℕ → ℕ → List LegChoice
+pick_if feed buyer rule row = if is_row_of feed buyer rule row then pick_of rule row ∷ [] else []
 
 -- the choices of a rule
-unfoldable pub rule_picks : FeedRows → Option RiderId → ℕ → List LegChoice
-rule_picks feed rider rule = joined_below (length feed.products) (pick_if feed rider rule)
+unfoldable pub rule_picks : FeedRows → Buyer → ℕ → List LegChoice
+rule_picks feed buyer rule = joined_below (length feed.products) (pick_if feed buyer rule)
 
 -- the choices of a rule, where the leg selects it
-abbrev pub picks_if : FeedRows → Option RiderId → LegFacts → ℕ → List LegChoice
-picks_if feed rider leg rule = if at_and feed.leg_rules rule (is_selected_rule feed leg) then rule_picks feed rider rule else []
+abbrev pub picks_if : FeedRows → Buyer → LegFacts → ℕ → List LegChoice
+picks_if feed buyer leg rule = if at_and feed.leg_rules rule (is_selected_rule feed leg) then rule_picks feed buyer rule else []
 
 -- ---- changes
 
 -- what may fill the place of the change is exactly this, each once
-pub record ArePlaces (feed : FeedRows) (rider : Option RiderId) (change : Option AskedChange)
+pub record ArePlaces (feed : FeedRows) (buyer : Buyer) (change : Option AskedChange)
     (places : List (Option ChangeChoice)) : Type 0 where
-  pub right : All (λ place. is_place_after feed rider change place ≡ true) places
-  pub all : (place : Option ChangeChoice) → is_place_after feed rider change place ≡ true → Contains places place
+  pub right : All (λ place. is_place_after feed buyer change place ≡ true) places
+  pub all : (place : Option ChangeChoice) → is_place_after feed buyer change place ≡ true → Contains places place
   pub once : AllPairs (λ a b. a ≢ b) places
 
 abbrev pub place_of : ℕ → Option ℕ → Option ChangeChoice
@@ -62,33 +62,33 @@ place_of rule None = Some (record { rule = record { 0 = rule }; product = None }
 place_of rule (Some row) = Some (record { rule = record { 0 = rule }; product = Some (record { 0 = row }) })
 
 -- the place by the product row, where it is an open row of the product
-abbrev pub place_if : FeedRows → Option RiderId → ℕ → ProductId → ℕ → List (Option ChangeChoice)
-place_if feed rider rule product row =
-    if at_and feed.products row (is_open product rider) then place_of rule (Some row) ∷ [] else []
+abbrev pub place_if : FeedRows → Buyer → ℕ → ProductId → ℕ → List (Option ChangeChoice)
+place_if feed buyer rule product row =
+    if at_and feed.products row (is_open product buyer) then place_of rule (Some row) ∷ [] else []
 
 -- the places by a transfer row with this product
-unfoldable pub product_places : FeedRows → Option RiderId → ℕ → Option ProductId → List (Option ChangeChoice)
-product_places feed rider rule None = place_of rule None ∷ []
-product_places feed rider rule (Some product) = joined_below (length feed.products) (place_if feed rider rule product)
+unfoldable pub product_places : FeedRows → Buyer → ℕ → Option ProductId → List (Option ChangeChoice)
+product_places feed buyer rule None = place_of rule None ∷ []
+product_places feed buyer rule (Some product) = joined_below (length feed.products) (place_if feed buyer rule product)
 
 -- the places by a transfer row, where it is selected
-abbrev pub row_places : FeedRows → Option RiderId → AskedChange → ℕ → List (Option ChangeChoice)
-row_places feed rider change rule =
-    option_map_or (λ row. if is_selected feed change row then product_places feed rider rule row.product else [])
+abbrev pub row_places : FeedRows → Buyer → AskedChange → ℕ → List (Option ChangeChoice)
+row_places feed buyer change rule =
+    option_map_or (λ row. if is_selected feed change row then product_places feed buyer rule row.product else [])
     (slice_get feed.transfer_rules rule) []
 
 -- the places by the transfer row with this number, where it suits and has the least count
-abbrev pub chosen_places : FeedRows → Option RiderId → AskedChange → Option (Option ℕ) → XferId → List (Option ChangeChoice)
-chosen_places feed rider change least rule =
-    option_map_or (λ row. if is_chosen change least row then product_places feed rider rule.0 row.product else [])
+abbrev pub chosen_places : FeedRows → Buyer → AskedChange → Option (Option ℕ) → XferId → List (Option ChangeChoice)
+chosen_places feed buyer change least rule =
+    option_map_or (λ row. if is_chosen change least row then product_places feed buyer rule.0 row.product else [])
     (slice_get feed.transfer_rules rule.0) []
 
 -- what may fill the place of a change: where it isn't arranged, or there is none, nothing
-unfoldable pub place_list : FeedRows → Option RiderId → Option AskedChange → List (Option ChangeChoice)
-place_list feed rider None = None ∷ []
-place_list feed rider (Some change) =
+unfoldable pub place_list : FeedRows → Buyer → Option AskedChange → List (Option ChangeChoice)
+place_list feed buyer None = None ∷ []
+place_list feed buyer (Some change) =
     if is_arranged_after feed change
-    then joined_below (length feed.transfer_rules) (row_places feed rider change)
+    then joined_below (length feed.transfer_rules) (row_places feed buyer change)
     else None ∷ []
 
 -- ---- moves
@@ -99,16 +99,16 @@ first_made feed times pick =
     option_map_or (λ first. first_move feed first (bare pick None) ∷ []) (chosen_at feed times pick) []
 
 -- the moves of a leg with these moments after the state that is paid so: by each place of the change to it
-abbrev pub next_made : FeedRows → Option RiderId → FareState → ℤ → LegTimes → LegChoice → List Move
-next_made feed rider state held times pick =
+abbrev pub next_made : FeedRows → Buyer → FareState → ℤ → LegTimes → LegChoice → List Move
+next_made feed buyer state held times pick =
     option_map_or
-    (λ next. map (λ place. next_move feed state held next (bare pick place)) (place_list feed rider (asked_after state next)))
+    (λ next. map (λ place. next_move feed state held next (bare pick place)) (place_list feed buyer (asked_after state next)))
     (chosen_at feed times pick) []
 
 -- these are the places of the change from the state to a leg with these moments, where its rule is of this group
-abbrev pub HasPlaces : FeedRows → Option RiderId → FareState → LegTimes → List (Option ChangeChoice)
+abbrev pub HasPlaces : FeedRows → Buyer → FareState → LegTimes → List (Option ChangeChoice)
     → Option LegGroupId → Type 0
-HasPlaces feed rider state times places group = places ≡ place_list feed rider (asked_after state (leg_by times group))
+HasPlaces feed buyer state times places group = places ≡ place_list feed buyer (asked_after state (leg_by times group))
 
 -- the lists of all choices, one after another
 abbrev pub made_at : (LegChoice → List Move) → List LegChoice → ℕ → List Move

@@ -1,12 +1,11 @@
 -- What an automaton is about.
-use Rattle.std.specs.Prelude.{Option}
-use Rattle.transit_base.specs.declared.numbers.RiderId.{RiderId}
+use Rattle.feed_rows.specs.declared.journeys.Buyer.{Buyer}
 use Rattle.feed_rows.specs.FeedRows.{FeedRows}
 
--- a feed and a rider
+-- a feed and a buyer
 pub record FareTerms : Type 0 where
   pub feed : FeedRows
-  pub rider : Option RiderId
+  pub buyer : Buyer
 
-abbrev pub terms : FeedRows → Option RiderId → FareTerms
-terms feed rider = record { feed = feed; rider = rider }
+abbrev pub terms : FeedRows → Buyer → FareTerms
+terms feed buyer = record { feed = feed; buyer = buyer }

@@ -1,4 +1,4 @@
-//! The automaton of a feed and a rider.
+//! The automaton of a feed and a buyer.
 ghost use Rattle.std.specs.Prelude.{◌≡◌, slice_get, IfOk, IfSome};
 ghost use Rattle.std.specs.Option.{option_copied};
 ghost use Rattle.feed_rows.specs.FareChoices.{open_rows};
@@ -15,23 +15,23 @@ use crate::pairs::{place_of, rows_of_pairs};
 use crate::reads::{GroupReads, reads_of, reads_of_groups};
 use fare_leg_rules::LegRules;
 use fare_transfer_rules::{ClassedRow, XferRules};
-use feed_rows::{Feed, LegRuleRow, ProductRow, TransferRuleRow};
+use feed_rows::{Buyer, Feed, LegRuleRow, ProductRow, TransferRuleRow};
 use item_groups::Groups;
 use std::alloc::{AllocError, Global};
 use std::marker::Model;
-use transit_base::{LegGroupId, Money, ProductId, ProductRowId, RiderId, RuleId, XferId};
+use transit_base::{LegGroupId, Money, ProductId, ProductRowId, RuleId, XferId};
 
-/// The fare rules of a feed for one rider, as moves from fare state to fare state. Contracts see it as the feed and the rider.
+/// The fare rules of a feed for one buyer, as moves from fare state to fare state. Contracts see it as the feed and the buyer.
 pub struct Automaton<'f> {
     feed: &'f Feed,
-    pub(crate) rider: Option<RiderId>,
+    pub(crate) buyer: Buyer,
     pub(crate) leg_rules: LegRules,
     pub(crate) transfer_rules: XferRules,
     /// What transfer rows read of changes from each leg group.
     reads: Vec<GroupReads>,
     /// The rows for changes between each two leg groups.
     pairs: Groups<ClassedRow>,
-    /// The rows of each product that are open to the rider, in file order.
+    /// The rows of each product that are open to the buyer, in file order.
     opened: Groups<ProductRowId>,
     floor: Money,
 }
@@ -41,7 +41,7 @@ impl<'f> Drop for Automaton<'f> {
     fn drop(self) {
         let Automaton {
             feed: _,
-            rider: _,
+            buyer: _,
             leg_rules: _,
             transfer_rules: _,
             reads: _,
@@ -62,32 +62,28 @@ impl<'f> Model for Automaton<'f> {
 
     ghost Value = { FareTerms };
 
-    ghost view = { λ s. terms s.feed.now s.rider };
+    ghost view = { λ s. terms s.feed.now s.buyer };
 
-    ghost invariant = { λ s. AreLegRulesOf s.feed.now s.leg_rules × AreXferRulesOf s.feed.now s.transfer_rules × AreReads s.feed.now s.reads.items × AreOpenRows s.feed.now s.rider s.opened × (s.floor.0 ≡ fare_floor s.feed.now s.rider) × ArePairRows s.feed.now s.pairs };
+    ghost invariant = { λ s. AreLegRulesOf s.feed.now s.leg_rules × AreXferRulesOf s.feed.now s.transfer_rules × AreReads s.feed.now s.reads.items × AreOpenRows s.feed.now s.buyer s.opened × (s.floor.0 ≡ fare_floor s.feed.now s.buyer) × ArePairRows s.feed.now s.pairs };
 }
 
 impl<'f> Automaton<'f> {
-    /// The automaton of the feed for the rider.
+    /// The automaton of the feed for the buyer.
     ///
     /// # Errors
     /// Want of memory.
-    pub fn compile(
-        alloc: Global,
-        feed: &'f Feed,
-        rider: Option<RiderId>,
-    ) -> Result<Automaton<'f>, AllocError>
-        ensures { IfOk result (λ automaton. automaton ≡ terms feed.now rider) }
+    pub fn compile(alloc: Global, feed: &'f Feed, buyer: Buyer) -> Result<Automaton<'f>, AllocError>
+        ensures { IfOk result (λ automaton. automaton ≡ terms feed.now buyer) }
     {
         let leg_rules = LegRules::build(alloc, feed)?;
         let transfer_rules = XferRules::build(alloc, feed)?;
         let reads = reads_of_groups(alloc, feed, &transfer_rules)?;
         let pairs = rows_of_pairs(alloc, feed, &transfer_rules)?;
-        let opened = open_rows(alloc, feed, rider)?;
-        let floor = floor_of(feed, rider);
+        let opened = open_rows(alloc, feed, buyer)?;
+        let floor = floor_of(feed, buyer);
         Ok(Automaton {
             feed,
-            rider,
+            buyer,
             leg_rules,
             transfer_rules,
             reads,
@@ -100,7 +96,7 @@ impl<'f> Automaton<'f> {
     /// How little a leg with the change to it can cost: the lesser of 0 and the least amount open for a leg rule, plus the
     /// same for a transfer rule.
     pub fn floor(&self) -> Money
-        ensures { result.0 ≡ fare_floor self.now.feed self.now.rider }
+        ensures { result.0 ≡ fare_floor self.now.feed self.now.buyer }
     {
         self.floor
     }
@@ -137,9 +133,9 @@ impl<'f> Automaton<'f> {
         self.feed().products.items().get(row.0 as usize)
     }
 
-    /// The rows of the product that are open to the rider, in file order.
+    /// The rows of the product that are open to the buyer, in file order.
     pub(crate) fn open_rows(&self, product: ProductId) -> &[ProductRowId]
-        ensures { result.now ≡ open_rows self.now.feed product self.now.rider }
+        ensures { result.now ≡ open_rows self.now.feed product self.now.buyer }
     {
         self.opened.get(product.0 as usize)
     }

@@ -35,7 +35,7 @@ impl<'f> Automaton<'f> {
         moves: &mut Vec<Move>,
     ) -> Result<(), AllocError>
         requires held { nat_abs held.0 ≤ 10 ^ 16 }
-        ensures { (leg : LegFacts) → times_of leg ≡ times → AreEnough self.now.feed self.now.rider leg options.now → OnOk result (AreEnoughMoves self.now.feed self.now.rider (Some state.now) held.0 leg moves.new.items) }
+        ensures { (leg : LegFacts) → times_of leg ≡ times → AreEnough self.now.feed self.now.buyer leg options.now → OnOk result (AreEnoughMoves self.now.feed self.now.buyer (Some state.now) held.0 leg moves.new.items) }
     {
         moves.clear();
         let mut known = None;
@@ -59,9 +59,9 @@ impl<'f> Automaton<'f> {
         moves: &mut Vec<Move>,
     ) -> Result<Option<Option<LegGroupId>>, AllocError>
         requires held { nat_abs held.0 ≤ 10 ^ 16 }
-        requires known { ForSome known (HasPlaces self.now.feed self.now.rider state.now times places.old.items) }
-        ensures moves { OnOk result (AddsFewer (next_made self.now.feed self.now.rider state.now held.0 times pick.now) moves.old.items moves.new.items) }
-        ensures known { IfOk result (λ group. ForSome group (HasPlaces self.now.feed self.now.rider state.now times places.new.items)) }
+        requires known { ForSome known (HasPlaces self.now.feed self.now.buyer state.now times places.old.items) }
+        ensures moves { OnOk result (AddsFewer (next_made self.now.feed self.now.buyer state.now held.0 times pick.now) moves.old.items moves.new.items) }
+        ensures known { IfOk result (λ group. ForSome group (HasPlaces self.now.feed self.now.buyer state.now times places.new.items)) }
     {
         match self.chosen_at(times, pick) {
             Some(next) => {

@@ -7,7 +7,7 @@ ghost use Rattle.fare_automaton.specs.Changes.{leg_of, asked_of, chosen_at};
 
 use crate::automaton::Automaton;
 use crate::changes::{Change, GroupedLeg, LegTimes};
-use feed_rows::{ChangeChoice, LegChoice, LegFacts, Move, ProductRow};
+use feed_rows::{Buyer, ChangeChoice, LegChoice, LegFacts, Move, ProductRow};
 use transit_base::{ProductId, ProductRowId, RiderId};
 
 impl<'f> Automaton<'f> {
@@ -35,24 +35,24 @@ impl<'f> Automaton<'f> {
     }
 
     /// Whether the leg selects the rule, and the row is an open row of its product.
-    pub(crate) fn is_leg_choice(&self, rider: Option<RiderId>, leg: &LegFacts, taken: &Move) -> bool
-        ensures { result ≡ is_leg_choice self.now.feed rider leg.now (leg_taken taken.now) }
+    pub(crate) fn is_leg_choice(&self, buyer: Buyer, leg: &LegFacts, taken: &Move) -> bool
+        ensures { result ≡ is_leg_choice self.now.feed buyer leg.now (leg_taken taken.now) }
     {
         match self.leg_row(taken.rule) {
             Some(own) => {
                 self.leg_rules.selects(leg, taken.rule)
-                    && self.is_open_row(rider, own.product, taken.product)
+                    && self.is_open_row(buyer, own.product, taken.product)
             }
             None => false,
         }
     }
 
     /// Whether the row is an open row of the product.
-    fn is_open_row(&self, rider: Option<RiderId>, product: ProductId, row: ProductRowId) -> bool
-        ensures { result ≡ at_and self.now.feed.products row.0 (is_open product rider) }
+    fn is_open_row(&self, buyer: Buyer, product: ProductId, row: ProductRowId) -> bool
+        ensures { result ≡ at_and self.now.feed.products row.0 (is_open product buyer) }
     {
         match self.product_row(row) {
-            Some(priced) => is_open(product, rider, priced),
+            Some(priced) => is_open(product, buyer, priced),
             None => false,
         }
     }
@@ -61,14 +61,14 @@ impl<'f> Automaton<'f> {
     #[tactic(auto)]
     fn is_change_product(
         &self,
-        rider: Option<RiderId>,
+        buyer: Buyer,
         product: Option<ProductId>,
         row: Option<ProductRowId>,
     ) -> bool
-        ensures { result ≡ is_change_product self.now.feed rider product row }
+        ensures { result ≡ is_change_product self.now.feed buyer product row }
     {
         match (product, row) {
-            (Some(named), Some(chosen)) => self.is_open_row(rider, named, chosen),
+            (Some(named), Some(chosen)) => self.is_open_row(buyer, named, chosen),
             (None, None) => true,
             _ => false,
         }
@@ -76,13 +76,13 @@ impl<'f> Automaton<'f> {
 
     /// Whether the row is selected for the change, with the right row of its product.
     #[tactic(auto, unfolding(feed_rows::specs::FareSteps::is_row_after))]
-    fn is_row_after(&self, rider: Option<RiderId>, change: &Change, pick: &ChangeChoice) -> bool
-        ensures { result ≡ is_row_after self.now.feed rider (asked_of change.now) pick.now }
+    fn is_row_after(&self, buyer: Buyer, change: &Change, pick: &ChangeChoice) -> bool
+        ensures { result ≡ is_row_after self.now.feed buyer (asked_of change.now) pick.now }
     {
         match self.transfer_row(pick.rule) {
             Some(row) => {
                 self.selects(change, row)
-                    && self.is_change_product(rider, row.product, pick.product)
+                    && self.is_change_product(buyer, row.product, pick.product)
             }
             None => false,
         }
@@ -91,14 +91,14 @@ impl<'f> Automaton<'f> {
     /// Whether the place of the change is empty where the change isn't arranged, and else has a choice for it.
     pub(crate) fn is_place_after(
         &self,
-        rider: Option<RiderId>,
+        buyer: Buyer,
         change: Option<Change>,
         place: Option<ChangeChoice>,
     ) -> bool
-        ensures { result ≡ is_place_after self.now.feed rider (option_map asked_of change) place }
+        ensures { result ≡ is_place_after self.now.feed buyer (option_map asked_of change) place }
     {
         match (change, place) {
-            (Some(asked), Some(pick)) => self.is_row_after(rider, &asked, &pick),
+            (Some(asked), Some(pick)) => self.is_row_after(buyer, &asked, &pick),
             (Some(asked), None) => !self.is_arranged(&asked),
             (None, Some(_)) => false,
             (None, None) => true,
@@ -137,19 +137,19 @@ pub fn is_whole(taken: &Move) -> bool
     }
 }
 
-/// Whether the row is of the product, and open to the rider.
+/// Whether the row is of the product, and open to the buyer.
 #[tactic(auto, unfolding(feed_rows::specs::FareChoices::is_open))]
-pub fn is_open(product: ProductId, rider: Option<RiderId>, row: &ProductRow) -> bool
-    ensures { result ≡ is_open product rider row.now }
+pub fn is_open(product: ProductId, buyer: Buyer, row: &ProductRow) -> bool
+    ensures { result ≡ is_open product buyer row.now }
 {
-    row.product.0 == product.0 && opens(row.rider, rider)
+    row.product.0 == product.0 && opens(row.rider, buyer)
 }
 
-/// Whether a row of this category is open to the rider.
-fn opens(category: Option<RiderId>, rider: Option<RiderId>) -> bool
-    ensures { result ≡ empty_or category (λ c. filled_and rider (λ r. r.0 == c.0)) }
+/// Whether a row of this category is open to the buyer.
+fn opens(category: Option<RiderId>, buyer: Buyer) -> bool
+    ensures { result ≡ empty_or category (λ c. filled_and buyer.rider (λ r. r.0 == c.0)) }
 {
-    match (category, rider) {
+    match (category, buyer.rider) {
         (Some(own), Some(other)) => other.0 == own.0,
         (Some(_), None) => false,
         (None, _) => true,

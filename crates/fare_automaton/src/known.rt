@@ -12,7 +12,7 @@ use std::alloc::{AllocError, Global};
 use std::marker::Model;
 
 /// What it is enough to pay for legs: of what can be paid the cheapest for each leg group. It is asked once for all legs that differ
-/// in their moments at most. Contracts see the feed and the rider, and the lists that are kept.
+/// in their moments at most. Contracts see the feed and the buyer, and the lists that are kept.
 pub struct KnownOptions<'a, 'f> {
     automaton: &'a Automaton<'f>,
     table: KindTable<LegChoice>,
@@ -135,7 +135,7 @@ impl<'a, 'f> KnownOptions<'a, 'f> {
 
     /// What is kept under the number, which is enough for each leg of its kind.
     pub fn options(&self, number: usize) -> &[LegChoice]
-        ensures { (leg : LegFacts) → IsOfKind self.now.lists leg number → AreEnough self.now.terms.feed self.now.terms.rider leg result.now }
+        ensures { (leg : LegFacts) → IsOfKind self.now.lists leg number → AreEnough self.now.terms.feed self.now.terms.buyer leg result.now }
     {
         self.table.list(number)
     }

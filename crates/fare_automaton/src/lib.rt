@@ -1,6 +1,6 @@
 //! Fare states: what a search must remember of the legs so far, and every move that the fare rules allow from there.
 //!
-//! An automaton is compiled once for a feed and a rider: its transfer rows by the leg groups that they are for, what they read of
+//! An automaton is compiled once for a feed and a buyer: its transfer rows by the leg groups that they are for, what they read of
 //! each leg group, and the open rows of each product. A move pays one leg and the change to it. What it adds to what was paid,
 //! what is held then, and the next state follow from the state and what was held alone.
 #![tactic(auto)]

@@ -4,9 +4,8 @@ ghost use Rattle.std.specs.Option.{is_some, option_map_or};
 ghost use Rattle.plain_laws.specs.Plain.{filled_and, when};
 ghost use Rattle.feed_rows.specs.TransferRules.{same_group};
 ghost use Rattle.feed_rows.specs.FareSums.{amount_of};
-ghost use Rattle.feed_rows.specs.FareStands.{place_kind, place_charge, next_paid, next_held};
 ghost use Rattle.feed_rows.specs.FareStates.{greatest_count, is_clock_read, counts_from_departure, counts_from_arrival, state_of_run};
-ghost use Rattle.feed_rows.specs.FareSteps.{leg_taken, place_taken, is_whole, asked_after, is_place_after, next_state, first_move, next_move, move_of_first, move_of_next, move_after};
+ghost use Rattle.feed_rows.specs.FareSteps.{place_kind, place_charge, next_paid, next_held, leg_taken, place_taken, is_whole, asked_after, is_place_after, next_state, first_move, next_move, move_of_first, move_of_next, move_after};
 ghost use Rattle.feed_rows.specs.FareChoices.{is_leg_choice};
 ghost use Rattle.fare_automaton.specs.Changes.{leg_of, IsLow};
 
@@ -14,8 +13,10 @@ use crate::automaton::Automaton;
 use crate::changes::{GroupedLeg, change_after};
 use crate::judge::{is_whole, leg_taken, place_taken};
 use crate::reads::GroupReads;
-use feed_rows::{ChangeChoice, FareState, LegFacts, Move};
-use transit_base::{LegGroupId, Moment, Money, ProductRowId, RiderId};
+use feed_rows::{
+    Buyer, CHANGE_ALONE, ChangeChoice, FareState, LegFacts, Move, includes_leg_after, same_group,
+};
+use transit_base::{LegGroupId, Moment, Money, ProductRowId};
 
 impl<'f> Automaton<'f> {
     /// The move with what follows, after the state or, where there is none, as a first leg; none where its row numbers are no
@@ -28,65 +29,65 @@ impl<'f> Automaton<'f> {
         taken: &Move,
     ) -> Option<Move>
         requires held { nat_abs held.0 ≤ 10 ^ 16 }
-        ensures { result ≡ move_after self.now.feed self.now.rider (option_map (λ s. s.now) state.entry) held.0 leg.now taken.now }
+        ensures { result ≡ move_after self.now.feed self.now.buyer (option_map (λ s. s.now) state.entry) held.0 leg.now taken.now }
     {
-        self.apply_for(self.rider, state, held, leg, taken)
+        self.apply_for(self.buyer, state, held, leg, taken)
     }
 
-    /// The same for any rider: what an automaton has of its own rider alone is not looked at.
+    /// The same for any buyer: what an automaton has of its own buyer alone is not looked at.
     pub fn apply_for(
         &self,
-        rider: Option<RiderId>,
+        buyer: Buyer,
         state: Option<&FareState>,
         held: Money,
         leg: &LegFacts,
         taken: &Move,
     ) -> Option<Move>
         requires held { nat_abs held.0 ≤ 10 ^ 16 }
-        ensures { result ≡ move_after self.now.feed rider (option_map (λ s. s.now) state.entry) held.0 leg.now taken.now }
+        ensures { result ≡ move_after self.now.feed buyer (option_map (λ s. s.now) state.entry) held.0 leg.now taken.now }
     {
         match state {
-            None => self.move_of_first(rider, leg, taken),
-            Some(before) => self.move_of_next(rider, before, held, leg, taken),
+            None => self.move_of_first(buyer, leg, taken),
+            Some(before) => self.move_of_next(buyer, before, held, leg, taken),
         }
     }
 
     /// The move of a first leg.
-    fn move_of_first(&self, rider: Option<RiderId>, leg: &LegFacts, taken: &Move) -> Option<Move>
-        ensures { result ≡ move_of_first self.now.feed rider leg.now taken.now }
+    fn move_of_first(&self, buyer: Buyer, leg: &LegFacts, taken: &Move) -> Option<Move>
+        ensures { result ≡ move_of_first self.now.feed buyer leg.now taken.now }
     {
         let Some(first) = self.chosen_leg(leg, &leg_taken(taken)) else {
             return None;
         };
-        if !self.is_first(rider, leg, taken) {
+        if !self.is_first(buyer, leg, taken) {
             return None;
         }
         Some(self.first_move(&first, taken))
     }
 
     /// Whether the row numbers are an option for a first leg.
-    fn is_first(&self, rider: Option<RiderId>, leg: &LegFacts, taken: &Move) -> bool
-        ensures { result ≡ (is_leg_choice self.now.feed rider leg.now (leg_taken taken.now) && is_none (place_taken taken.now) && is_whole taken.now) }
+    fn is_first(&self, buyer: Buyer, leg: &LegFacts, taken: &Move) -> bool
+        ensures { result ≡ (is_leg_choice self.now.feed buyer leg.now (leg_taken taken.now) && is_none (place_taken taken.now) && is_whole taken.now) }
     {
-        self.is_leg_choice(rider, leg, taken) && place_taken(taken).is_none() && is_whole(taken)
+        self.is_leg_choice(buyer, leg, taken) && place_taken(taken).is_none() && is_whole(taken)
     }
 
     /// The move of a leg after the state.
     fn move_of_next(
         &self,
-        rider: Option<RiderId>,
+        buyer: Buyer,
         state: &FareState,
         held: Money,
         leg: &LegFacts,
         taken: &Move,
     ) -> Option<Move>
         requires held { nat_abs held.0 ≤ 10 ^ 16 }
-        ensures { result ≡ move_of_next self.now.feed rider state.now held.0 leg.now taken.now }
+        ensures { result ≡ move_of_next self.now.feed buyer state.now held.0 leg.now taken.now }
     {
         let Some(next) = self.chosen_leg(leg, &leg_taken(taken)) else {
             return None;
         };
-        if !self.is_next(rider, state, &next, leg, taken) {
+        if !self.is_next(buyer, state, &next, leg, taken) {
             return None;
         }
         Some(self.next_move(state, held, &next, taken))
@@ -95,16 +96,16 @@ impl<'f> Automaton<'f> {
     /// Whether the row numbers are an option for the leg after the state.
     fn is_next(
         &self,
-        rider: Option<RiderId>,
+        buyer: Buyer,
         state: &FareState,
         next: &GroupedLeg,
         leg: &LegFacts,
         taken: &Move,
     ) -> bool
-        ensures { result ≡ (is_leg_choice self.now.feed rider leg.now (leg_taken taken.now) && is_place_after self.now.feed rider (asked_after state.now (leg_of next.now)) (place_taken taken.now) && is_whole taken.now) }
+        ensures { result ≡ (is_leg_choice self.now.feed buyer leg.now (leg_taken taken.now) && is_place_after self.now.feed buyer (asked_after state.now (leg_of next.now)) (place_taken taken.now) && is_whole taken.now) }
     {
-        self.is_leg_choice(rider, leg, taken)
-            && self.is_place_after(rider, change_after(state, next), place_taken(taken))
+        self.is_leg_choice(buyer, leg, taken)
+            && self.is_place_after(buyer, change_after(state, next), place_taken(taken))
             && is_whole(taken)
     }
 
@@ -259,16 +260,6 @@ fn clock_after(goes_on: bool, clock: Option<Moment>, next: Moment, is_read: bool
     }
 }
 
-/// Whether both groups are there, and equal.
-fn same_group(a: Option<LegGroupId>, b: Option<LegGroupId>) -> bool
-    ensures { result ≡ same_group a b }
-{
-    match (a, b) {
-        (Some(g), Some(h)) => g.0 == h.0,
-        _ => false,
-    }
-}
-
 /// What of the next leg's amount is held after a change of this type.
 fn held_after(kind: Option<u8>, amount: i64) -> i64
     ensures { result ≡ next_held kind amount }
@@ -299,9 +290,13 @@ fn paid_by(held: i64, code: u8, amount: i64, charge: i64) -> i64
     requires charge { IsLow charge }
     ensures { result ≡ next_paid (pos 0) held (Some code) amount charge }
 {
-    if code == 2 {
+    if code == CHANGE_ALONE {
         return charge;
     }
     let before = held + charge;
-    if code == 0 { before } else { before + amount }
+    if includes_leg_after(code) {
+        before
+    } else {
+        before + amount
+    }
 }

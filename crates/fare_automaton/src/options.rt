@@ -21,7 +21,7 @@ impl<'f> Automaton<'f> {
     /// # Errors
     /// Want of memory.
     pub fn options(&self, alloc: Global, leg: &LegFacts) -> Result<Vec<LegChoice>, AllocError>
-        ensures { IfOk result (λ picks. ArePicks self.now.feed self.now.rider leg.now picks.items) }
+        ensures { IfOk result (λ picks. ArePicks self.now.feed self.now.buyer leg.now picks.items) }
     {
         match self.leg_rules.selected(alloc, leg) {
             Ok(rules) => self.picks_of(alloc, rules.items()),
@@ -31,7 +31,7 @@ impl<'f> Automaton<'f> {
 
     /// Each of the rules with each open row of its product.
     fn picks_of(&self, alloc: Global, rules: &[RuleId]) -> Result<Vec<LegChoice>, AllocError>
-        ensures { IfOk result (λ picks. picks.items ≡ flat_map (λ (rule : RuleId). rule_picks self.now.feed self.now.rider rule.0) rules.now) }
+        ensures { IfOk result (λ picks. picks.items ≡ flat_map (λ (rule : RuleId). rule_picks self.now.feed self.now.buyer rule.0) rules.now) }
     {
         let mut picks = Vec::new(alloc);
         for rule in rules {
@@ -42,7 +42,7 @@ impl<'f> Automaton<'f> {
 
     /// Adds the rule with each open row of its product.
     fn push_rule(&self, rule: RuleId, picks: &mut Vec<LegChoice>) -> Result<(), AllocError>
-        ensures { OnOk result (picks.new.items ≡ picks.old.items ++ rule_picks self.now.feed self.now.rider rule.0) }
+        ensures { OnOk result (picks.new.items ≡ picks.old.items ++ rule_picks self.now.feed self.now.buyer rule.0) }
     {
         match self.leg_row(rule) {
             Some(own) => push_rows(rule, self.open_rows(own.product), picks),
@@ -61,7 +61,7 @@ impl<'f> Automaton<'f> {
         change: Option<Change>,
         places: &mut Vec<Option<ChangeChoice>>,
     ) -> Result<(), AllocError>
-        ensures { OnOk result (places.new.items ≡ place_list self.now.feed self.now.rider (option_map asked_of change)) }
+        ensures { OnOk result (places.new.items ≡ place_list self.now.feed self.now.buyer (option_map asked_of change)) }
     {
         places.clear();
         match change {
@@ -76,7 +76,7 @@ impl<'f> Automaton<'f> {
         change: &Change,
         places: &mut Vec<Option<ChangeChoice>>,
     ) -> Result<(), AllocError>
-        ensures { OnOk result (places.new.items ≡ places.old.items ++ place_list self.now.feed self.now.rider (Some (asked_of change.now))) }
+        ensures { OnOk result (places.new.items ≡ places.old.items ++ place_list self.now.feed self.now.buyer (Some (asked_of change.now))) }
     {
         let among = self.rows_between(change.from, change.to);
         let least = self.least_count(change, among);
@@ -95,7 +95,7 @@ impl<'f> Automaton<'f> {
         among: &[ClassedRow],
         places: &mut Vec<Option<ChangeChoice>>,
     ) -> Result<(), AllocError>
-        ensures { OnOk result (places.new.items ≡ places.old.items ++ flat_map (λ (r : ClassedRow). chosen_places self.now.feed self.now.rider (asked_of change.now) least r.row) among.now) }
+        ensures { OnOk result (places.new.items ≡ places.old.items ++ flat_map (λ (r : ClassedRow). chosen_places self.now.feed self.now.buyer (asked_of change.now) least r.row) among.now) }
     {
         for classed in among {
             self.push_chosen(change, least, classed.row, places)?;
@@ -111,7 +111,7 @@ impl<'f> Automaton<'f> {
         rule: XferId,
         places: &mut Vec<Option<ChangeChoice>>,
     ) -> Result<(), AllocError>
-        ensures { OnOk result (places.new.items ≡ places.old.items ++ chosen_places self.now.feed self.now.rider (asked_of change.now) least rule) }
+        ensures { OnOk result (places.new.items ≡ places.old.items ++ chosen_places self.now.feed self.now.buyer (asked_of change.now) least rule) }
     {
         match self.transfer_row(rule) {
             Some(row) if is_chosen(change, least, row) => {
@@ -129,7 +129,7 @@ impl<'f> Automaton<'f> {
         product: Option<ProductId>,
         places: &mut Vec<Option<ChangeChoice>>,
     ) -> Result<(), AllocError>
-        ensures { OnOk result (places.new.items ≡ places.old.items ++ product_places self.now.feed self.now.rider rule.0 product) }
+        ensures { OnOk result (places.new.items ≡ places.old.items ++ product_places self.now.feed self.now.buyer rule.0 product) }
     {
         match product {
             Some(own) => push_product_rows(rule, self.open_rows(own), places),

@@ -22,7 +22,7 @@ impl<'f> Automaton<'f> {
     /// # Errors
     /// Want of memory.
     pub fn start(&self, alloc: Global, leg: &LegFacts) -> Result<Moves, AllocError>
-        ensures { IfOk result (AreStarts self.now.feed self.now.rider leg.now) }
+        ensures { IfOk result (AreStarts self.now.feed self.now.buyer leg.now) }
     {
         let options = self.options(alloc, leg)?;
         let mut moves = Vec::new(alloc);
@@ -43,7 +43,7 @@ impl<'f> Automaton<'f> {
         leg: &LegFacts,
     ) -> Result<Moves, AllocError>
         requires held { nat_abs held.0 ≤ 10 ^ 16 }
-        ensures { IfOk result (AreSteps self.now.feed self.now.rider state.now held.0 leg.now) }
+        ensures { IfOk result (AreSteps self.now.feed self.now.buyer state.now held.0 leg.now) }
     {
         let options = self.options(alloc, leg)?;
         let mut places = Vec::new(alloc);
@@ -70,8 +70,8 @@ impl<'f> Automaton<'f> {
         options: &[LegChoice],
         moves: &mut Vec<Move>,
     ) -> Result<(), AllocError>
-        ensures all { (leg : LegFacts) → times_of leg ≡ times → ArePicks self.now.feed self.now.rider leg options.now → OnOk result (AreStarts self.now.feed self.now.rider leg moves.new.items) }
-        ensures enough { (leg : LegFacts) → times_of leg ≡ times → AreEnough self.now.feed self.now.rider leg options.now → OnOk result (AreEnoughMoves self.now.feed self.now.rider None (pos 0) leg moves.new.items) }
+        ensures all { (leg : LegFacts) → times_of leg ≡ times → ArePicks self.now.feed self.now.buyer leg options.now → OnOk result (AreStarts self.now.feed self.now.buyer leg moves.new.items) }
+        ensures enough { (leg : LegFacts) → times_of leg ≡ times → AreEnough self.now.feed self.now.buyer leg options.now → OnOk result (AreEnoughMoves self.now.feed self.now.buyer None (pos 0) leg moves.new.items) }
     {
         moves.clear();
         for number in 0..options.len() {
@@ -114,8 +114,8 @@ impl<'f> Automaton<'f> {
         moves: &mut Vec<Move>,
     ) -> Result<(), AllocError>
         requires held { nat_abs held.0 ≤ 10 ^ 16 }
-        ensures all { (leg : LegFacts) → times_of leg ≡ times → ArePicks self.now.feed self.now.rider leg options.now → OnOk result (AreSteps self.now.feed self.now.rider state.now held.0 leg moves.new.items) }
-        ensures enough { (leg : LegFacts) → times_of leg ≡ times → AreEnough self.now.feed self.now.rider leg options.now → OnOk result (AreEnoughMoves self.now.feed self.now.rider (Some state.now) held.0 leg moves.new.items) }
+        ensures all { (leg : LegFacts) → times_of leg ≡ times → ArePicks self.now.feed self.now.buyer leg options.now → OnOk result (AreSteps self.now.feed self.now.buyer state.now held.0 leg moves.new.items) }
+        ensures enough { (leg : LegFacts) → times_of leg ≡ times → AreEnough self.now.feed self.now.buyer leg options.now → OnOk result (AreEnoughMoves self.now.feed self.now.buyer (Some state.now) held.0 leg moves.new.items) }
     {
         moves.clear();
         let mut known = None;
@@ -138,9 +138,9 @@ impl<'f> Automaton<'f> {
         moves: &mut Vec<Move>,
     ) -> Result<Option<Option<LegGroupId>>, AllocError>
         requires held { nat_abs held.0 ≤ 10 ^ 16 }
-        requires known { ForSome known (HasPlaces self.now.feed self.now.rider state.now times places.old.items) }
-        ensures moves { OnOk result (moves.new.items ≡ moves.old.items ++ next_made self.now.feed self.now.rider state.now held.0 times pick.now) }
-        ensures known { IfOk result (λ group. ForSome group (HasPlaces self.now.feed self.now.rider state.now times places.new.items)) }
+        requires known { ForSome known (HasPlaces self.now.feed self.now.buyer state.now times places.old.items) }
+        ensures moves { OnOk result (moves.new.items ≡ moves.old.items ++ next_made self.now.feed self.now.buyer state.now held.0 times pick.now) }
+        ensures known { IfOk result (λ group. ForSome group (HasPlaces self.now.feed self.now.buyer state.now times places.new.items)) }
     {
         match self.chosen_at(times, pick) {
             Some(next) => {
@@ -161,9 +161,9 @@ impl<'f> Automaton<'f> {
         known: Option<Option<LegGroupId>>,
         places: &mut Vec<Option<ChangeChoice>>,
     ) -> Result<(), AllocError>
-        requires known { ForSome known (HasPlaces self.now.feed self.now.rider state.now times places.old.items) }
+        requires known { ForSome known (HasPlaces self.now.feed self.now.buyer state.now times places.old.items) }
         requires next { leg_of next.now ≡ leg_by times next.now.group }
-        ensures { OnOk result (HasPlaces self.now.feed self.now.rider state.now times places.new.items next.now.group) }
+        ensures { OnOk result (HasPlaces self.now.feed self.now.buyer state.now times places.new.items next.now.group) }
     {
         if is_known(known, next.group) {
             Ok(())

@@ -9,7 +9,7 @@ use Rattle.std.proofs.Math.ListN.{get_or-map}
 use Rattle.std.proofs.lemmas.Option.{same_Some, get_or_from_slice_get, slice_get_within, slice_get_cases, slice_get-get_or}
 use Rattle.std.proofs.lemmas.List.{length_push}
 use Rattle.plain_laws.proofs.Laws.{slice_get-append_left, slice_get-push_last}
-use Rattle.transit_base.specs.declared.numbers.RiderId.{RiderId}
+use Rattle.feed_rows.specs.declared.journeys.Buyer.{Buyer}
 use Rattle.feed_rows.specs.declared.journeys.LegFacts.{LegFacts}
 use Rattle.feed_rows.specs.declared.states.FareState.{FareState}
 use Rattle.feed_rows.specs.declared.states.Move.{Move}
@@ -47,8 +47,8 @@ end_none lasts amounts place ends is =
     ∙ ap end_by (get_or_from_slice_get lasts place true false is)
 
 -- the bounds are right, where each level is
-module _ (feed : FeedRows) (rider : Option RiderId) (lasts : List Bool) (amounts : LeastAmounts) (limits : List ℕ)
-    (levels lates : List Level) (rides : ℕ) (least : AreLeastAmounts feed rider amounts)
+module _ (feed : FeedRows) (buyer : Buyer) (lasts : List Bool) (amounts : LeastAmounts) (limits : List ℕ)
+    (levels lates : List Level) (rides : ℕ) (least : AreLeastAmounts feed buyer amounts)
     (ends : amounts.ends.items ≡ map end_by lasts) (within : AreLimits feed limits)
     (are : AreLevels feed amounts levels lates rides) where
   there : (ls : List Level) → length ls ≡ rides + 1 → (n : ℕ) → n < rides + 1 →
@@ -67,7 +67,7 @@ module _ (feed : FeedRows) (rider : Option RiderId) (lasts : List Bool) (amounts
   -- what a move leads to, by the two levels
   module _ (late : Bool) (nexts : List Level) (long : length nexts ≡ rides + 1)
       (follow : AreNext feed late amounts levels nexts) (more : ℕ) (lt : more < rides) (state : Option FareState)
-      (paid held : ℤ) (leg : LegFacts) (move : Move) (is : move_after feed rider state held leg move ≡ Some move)
+      (paid held : ℤ) (leg : LegFacts) (move : Move) (is : move_after feed buyer state held leg move ≡ Some move)
       (all : AllCountTo feed late state leg) where
     step : least_in nexts (more + 1) state paid held ≤ℤ
         int_min (paid +ℤ move.paid.0 +ℤ move.held.0 +ℤ end_at amounts (place_of move.state.group))
@@ -79,7 +79,7 @@ module _ (feed : FeedRows) (rider : Option RiderId) (lasts : List Bool) (amounts
           told nexts (more + 1) level.0 level.1 state paid held,
           told levels more before.0 before.1 (Some move.state) (paid +ℤ move.paid.0) move.held.0,
         )
-        (level_step feed late rider amounts before.0 level.0 least
+        (level_step feed late buyer amounts before.0 level.0 least
         (follow more before.0 level.0 before.1 level.1) state paid held leg move is all)
 
     goes_on : least_in nexts (more + 1) state paid held ≤ℤ
@@ -102,7 +102,7 @@ module _ (feed : FeedRows) (rider : Option RiderId) (lasts : List Bool) (amounts
   each_counts state leg own is next departs arrives change asked number row at selected = refl
 
   pub bounds_are :
-      AreFareBounds feed rider rides lasts (record { levels = levels; lates = lates; limits = limits })
+      AreFareBounds feed buyer rides lasts (record { levels = levels; lates = lates; limits = limits })
   bounds_are =
       record {
         on = λ more lt state paid held leg move is.

@@ -12,9 +12,8 @@ use Rattle.feed_rows.specs.declared.rows.Limit.{Limit}
 use Rattle.feed_rows.specs.declared.rows.TransferRuleRow.{TransferRuleRow}
 use Rattle.feed_rows.specs.declared.states.FareState.{FareState}
 use Rattle.feed_rows.specs.Codes.{departure_to_arrival, arrival_to_arrival}
-use Rattle.feed_rows.specs.FareStands.{Run}
 use Rattle.feed_rows.specs.FareStates.{counts_from_departure}
-use Rattle.feed_rows.specs.FareSteps.{asked_after, has_clock, run_told}
+use Rattle.feed_rows.specs.FareSteps.{Run, asked_after, has_clock, run_told}
 use Rattle.feed_rows.specs.TransferRules.{FareLeg, AskedChange, asked_change, change_between, limit_holds}
 use Rattle.plain_laws.specs.Plain.{empty_or}
 use Rattle.fare_bounds.specs.Amounts.{row_place}

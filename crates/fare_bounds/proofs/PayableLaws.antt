@@ -7,7 +7,7 @@ use Rattle.std.specs.Option.{ForSome}
 use Rattle.std.proofs.lemmas.Option.{slice_get-get_or}
 use Rattle.transit_base.specs.declared.numbers.LegGroupId.{LegGroupId}
 use Rattle.transit_base.specs.declared.numbers.ProductId.{ProductId}
-use Rattle.transit_base.specs.declared.numbers.RiderId.{RiderId}
+use Rattle.feed_rows.specs.declared.journeys.Buyer.{Buyer}
 use Rattle.feed_rows.specs.declared.rows.LegRuleRow.{LegRuleRow}
 use Rattle.feed_rows.specs.declared.rows.ProductRow.{ProductRow}
 use Rattle.feed_rows.specs.FeedRows.{FeedRows}
@@ -30,23 +30,23 @@ pub amount_fits : (z : ℤ) → nat_abs z ≤ 10 ^ 12 → SFits w64 z
 amount_fits (pos n) within = record { sfits = omega (arith, within) }
 amount_fits (negsuc n) within = record { sfits = omega (arith, within) }
 
--- a row that is open is of the product, and open to the rider
-open_tells : (product : ProductId) (rider : Option RiderId) (row : ProductRow) → is_open product rider row ≡ true →
-    (row.product.0 ≡ product.0) × (opens row.rider rider ≡ true)
+-- a row that is open is of the product, and open to the buyer
+open_tells : (product : ProductId) (buyer : Buyer) (row : ProductRow) → is_open product buyer row ≡ true →
+    (row.product.0 ≡ product.0) × (opens row.rider buyer ≡ true)
 unfolding is_open
-open_tells product rider row is = let both = and_parts (row.product.0 == product.0) _ is in
+open_tells product buyer row is = let both = and_parts (row.product.0 == product.0) _ is in
     (eqb-true row.product.0 product.0 both.0, both.1)
 
 -- where no row costs less than stands for its product, none that can be bought does
-pub products_are : (feed inside : FeedRows) (rider : Option RiderId) (rows : List ProductRow) (n : ℕ)
+pub products_are : (feed inside : FeedRows) (buyer : Buyer) (rows : List ProductRow) (n : ℕ)
     (amounts : List ℤ) →
     inside ≡ feed → AreSoundProducts inside → rows ≡ inside.products → length rows ≤ n →
-    AreFirst (IsProductRowAbove rider amounts) rows n → AreLeastOfProducts feed rider amounts
-products_are feed inside rider rows n amounts view sound same le all product amount buys =
-    let told = open_tells product rider buys.row buys.opens in
+    AreFirst (IsProductRowAbove buyer amounts) rows n → AreLeastOfProducts feed buyer amounts
+products_are feed inside buyer rows n amounts view sound same le all product amount buys =
+    let told = open_tells product buyer buys.row buys.opens in
     let at : slice_get inside.products buys.number ≡ Some buys.row =
     ap (λ (f : FeedRows). slice_get f.products buys.number) view ∙ buys.is in
-    let least = first_all (IsProductRowAbove rider amounts) rows inside.products n same le all buys.number buys.row
+    let least = first_all (IsProductRowAbove buyer amounts) rows inside.products n same le all buys.number buys.row
     at told.1 in
     record {
       above =
@@ -59,12 +59,12 @@ products_are feed inside rider rows n amounts view sound same le all product amo
     }
 
 -- where no rule costs less than stands for its group, no leg can be paid by less
-pub legs_are : (feed : FeedRows) (rider : Option RiderId) (products legs : List ℤ) →
-    AreLeastOfProducts feed rider products →
+pub legs_are : (feed : FeedRows) (buyer : Buyer) (products legs : List ℤ) →
+    AreLeastOfProducts feed buyer products →
     ((i : ℕ) (rule : LegRuleRow) → slice_get feed.leg_rules i ≡ Some rule → IsLegRuleAbove products legs rule) →
-    (group : Option LegGroupId) (amount : ℤ) → CanPayLeg feed rider group amount →
+    (group : Option LegGroupId) (amount : ℤ) → CanPayLeg feed buyer group amount →
     IsPaid (amount_at legs (place_of group)) amount
-legs_are feed rider products legs least rules group amount pays =
+legs_are feed buyer products legs least rules group amount pays =
     let paid = least pays.rule.product amount pays.buys in
     record {
       above =

@@ -1,8 +1,8 @@
 -- A level tells no more than each move leads to, where the level before it tells what follows.
 use Rattle.std.proofs.Common.{◌≡◌, refl, sym, ◌∙◌, ap, subst, ℕ, ◌+◌, ◌≤◌, Bool, true, false, ◌&&◌, List, arith}
-use Rattle.std.specs.Prelude.{◌==◌, if◌then◌else◌, Option, Some, None, is_none, slice_get, option_map, option_and_then, ℤ, pos, ◌+ℤ◌, ◌≤ℤ◌, ◌<ℤ◌}
+use Rattle.std.specs.Prelude.{◌==◌, if◌then◌else◌, Option, Some, None, slice_get, option_map, option_and_then, ℤ, pos, ◌+ℤ◌, ◌≤ℤ◌, ◌<ℤ◌}
 use Rattle.std.specs.Int.{int_min}
-use Rattle.std.specs.Option.{option_map_or, is_some, ForSome}
+use Rattle.std.specs.Option.{option_map_or, ForSome}
 use Rattle.std.proofs.lemmas.Bool.{and_parts, eqb-true}
 use Rattle.std.proofs.lemmas.Bool.Decides.{nat_tests}
 use Rattle.std.proofs.lemmas.Int.{ints}
@@ -11,7 +11,7 @@ use Rattle.transit_base.specs.declared.moments.Moment.{Moment}
 use Rattle.transit_base.specs.declared.numbers.LegGroupId.{LegGroupId}
 use Rattle.transit_base.specs.declared.numbers.ProductId.{ProductId}
 use Rattle.transit_base.specs.declared.numbers.ProductRowId.{ProductRowId}
-use Rattle.transit_base.specs.declared.numbers.RiderId.{RiderId}
+use Rattle.feed_rows.specs.declared.journeys.Buyer.{Buyer}
 use Rattle.feed_rows.specs.declared.fares.ChangeChoice.{ChangeChoice}
 use Rattle.feed_rows.specs.declared.fares.LegChoice.{LegChoice}
 use Rattle.feed_rows.specs.declared.journeys.LegFacts.{LegFacts}
@@ -22,15 +22,13 @@ use Rattle.feed_rows.specs.declared.states.Move.{Move}
 use Rattle.feed_rows.specs.FeedRows.{FeedRows}
 use Rattle.feed_rows.specs.Codes.{change_alone, includes_leg_after}
 use Rattle.feed_rows.specs.FareChoices.{is_open, chosen_leg, is_leg_choice, is_change_product}
-use Rattle.feed_rows.specs.FareStates.{capped_count, state_of_run}
-use Rattle.feed_rows.specs.FareStands.{Run, place_kind, place_charge, next_paid, next_held}
-use Rattle.feed_rows.specs.FareSteps.{move_after, leg_taken, place_taken, asked_after, is_place_after, is_row_after, next_state, run_told, has_clock}
+use Rattle.feed_rows.specs.FareSteps.{Run, place_kind, place_charge, next_paid, next_held, move_after, leg_taken, place_taken, asked_after, is_place_after, is_row_after, run_told, has_clock}
 use Rattle.feed_rows.specs.FareSums.{amount_of}
 use Rattle.feed_rows.specs.LegRules.{is_selected_rule}
-use Rattle.feed_rows.specs.TransferRules.{FareLeg, AskedChange, asked_change, change_between, limit_holds, group_matches, is_candidate, suffices, is_selected, is_least_count, same_group}
+use Rattle.feed_rows.specs.TransferRules.{FareLeg, AskedChange, asked_change, change_between, limit_holds, group_matches, is_candidate, suffices, is_selected, is_least_count}
 use Rattle.plain_laws.specs.Plain.{at_and, empty_or}
 use Rattle.plain_laws.proofs.Laws.{filled_and-true}
-use Rattle.fare_laws.proofs.MoveLaws.{first_tells, next_tells}
+use Rattle.fare_laws.proofs.MoveLaws.{first_tells, next_group, next_tells}
 use Rattle.fare_bounds.specs.declared.least.LeastAmounts.{LeastAmounts}
 use Rattle.fare_bounds.specs.declared.level.Level.{Level}
 use Rattle.fare_bounds.specs.Amounts.{amount_at, place_of, row_place, at_place}
@@ -44,11 +42,11 @@ use Rattle.fare_bounds.proofs.AmountLaws.{min_first, min_second, min_low, le_tra
 -- ---- what a move pays
 
 -- a row of the product that is open can be bought for its amount
-bought : (feed : FeedRows) (rider : Option RiderId) (product : ProductId) (row : ProductRowId) →
-    at_and feed.products row.0 (is_open product rider) ≡ true → CanBuy feed rider product (amount_of feed row)
+bought : (feed : FeedRows) (buyer : Buyer) (product : ProductId) (row : ProductRowId) →
+    at_and feed.products row.0 (is_open product buyer) ≡ true → CanBuy feed buyer product (amount_of feed row)
 unfolding amount_of
-bought feed rider product row right =
-    let found = filled_and-true (slice_get feed.products row.0) (is_open product rider) right in
+bought feed buyer product row right =
+    let found = filled_and-true (slice_get feed.products row.0) (is_open product buyer) right in
     record {
       number = row.0;
       row = found.value;
@@ -58,14 +56,14 @@ bought feed rider product row right =
     }
 
 -- the leg can be paid for so much by the group of its rule
-leg_paid : (feed : FeedRows) (rider : Option RiderId) (leg : LegFacts) (pick : LegChoice) (chosen : FareLeg) →
-    chosen_leg feed leg pick ≡ Some chosen → is_leg_choice feed rider leg pick ≡ true →
-    CanPayLeg feed rider chosen.group (amount_of feed pick.product)
+leg_paid : (feed : FeedRows) (buyer : Buyer) (leg : LegFacts) (pick : LegChoice) (chosen : FareLeg) →
+    chosen_leg feed leg pick ≡ Some chosen → is_leg_choice feed buyer leg pick ≡ true →
+    CanPayLeg feed buyer chosen.group (amount_of feed pick.product)
 unfolding is_leg_choice
-leg_paid feed rider leg pick chosen is right =
+leg_paid feed buyer leg pick chosen is right =
     let rule =
     filled_and-true (slice_get feed.leg_rules pick.rule.0)
-    (λ r. is_selected_rule feed leg r && at_and feed.products pick.product.0 (is_open r.product rider)) right in
+    (λ r. is_selected_rule feed leg r && at_and feed.products pick.product.0 (is_open r.product buyer)) right in
     let both = and_parts (is_selected_rule feed leg rule.value) _ rule.passes in
     let made : Some (record { group = rule.value.group; departure = leg.departure; arrival = leg.arrival }) ≡
     Some chosen =
@@ -76,24 +74,24 @@ leg_paid feed rider leg pick chosen is right =
       rule = rule.value;
       is = rule.is;
       of_group = ap (λ (l : FareLeg). l.group) (same_Some _ _ made);
-      buys = bought feed rider rule.value.product pick.product both.1;
+      buys = bought feed buyer rule.value.product pick.product both.1;
     }
 
 -- the change costs so much
-change_paid : (feed : FeedRows) (rider : Option RiderId) (product : Option ProductId) (row : Option ProductRowId) →
-    is_change_product feed rider product row ≡ true →
-    CanPayChange feed rider product (option_map_or (amount_of feed) row (pos 0))
-change_paid feed rider None None right = refl
-change_paid feed rider None (Some row) right = absurd (let no : false ≡ true = right in cc)
-change_paid feed rider (Some product) None right = absurd (let no : false ≡ true = right in cc)
-change_paid feed rider (Some product) (Some row) right = bought feed rider product row right
+change_paid : (feed : FeedRows) (buyer : Buyer) (product : Option ProductId) (row : Option ProductRowId) →
+    is_change_product feed buyer product row ≡ true →
+    CanPayChange feed buyer product (option_map_or (amount_of feed) row (pos 0))
+change_paid feed buyer None None right = refl
+change_paid feed buyer None (Some row) right = absurd (let no : false ≡ true = right in cc)
+change_paid feed buyer (Some product) None right = absurd (let no : false ≡ true = right in cc)
+change_paid feed buyer (Some product) (Some row) right = bought feed buyer product row right
 
 -- so it is no less than what stands for it
-charge_low : (feed : FeedRows) (rider : Option RiderId) (amounts : LeastAmounts) → AreLeastAmounts feed rider amounts →
-    (product : Option ProductId) (charge : ℤ) → CanPayChange feed rider product charge →
+charge_low : (feed : FeedRows) (buyer : Buyer) (amounts : LeastAmounts) → AreLeastAmounts feed buyer amounts →
+    (product : Option ProductId) (charge : ℤ) → CanPayChange feed buyer product charge →
     charge_of amounts product ≤ℤ charge
-charge_low feed rider amounts least None charge pays = subst (λ (z : ℤ). pos 0 ≤ℤ z) (sym pays) (omega (arith, ints))
-charge_low feed rider amounts least (Some product) charge pays = (least.products product charge pays).above
+charge_low feed buyer amounts least None charge pays = subst (λ (z : ℤ). pos 0 ≤ℤ z) (sym pays) (omega (arith, ints))
+charge_low feed buyer amounts least (Some product) charge pays = (least.products product charge pays).above
 
 -- ---- the groups of a change
 
@@ -138,23 +136,6 @@ asked_tells state next change is = by state.group next.group is
     by (Some g) None e = absurd (none-some change e)
     by (Some g) (Some h) e =
         (ap (λ (c : AskedChange). Some c.from) (same_Some _ _ e), ap (λ (c : AskedChange). Some c.to) (same_Some _ _ e))
-
-same_groups : (a b : Option LegGroupId) → same_group a b ≡ true → a ≡ b
-same_groups None b is = absurd (let no : false ≡ true = is in cc)
-same_groups (Some g) None is = absurd (let no : false ≡ true = is in cc)
-same_groups (Some g) (Some h) is = ap (λ (n : ℕ). Some (record { 0 = n })) (eqb-true g.0 h.0 is)
-
--- the state after a leg has the group of its rule
-next_group : (feed : FeedRows) (state : FareState) (next : FareLeg) (place : Option ChangeChoice) →
-    (next_state feed state next place).group ≡ next.group
-next_group feed state next place = by (same_group state.group next.group && is_some place) refl
-  where
-    by : (b : Bool) → (same_group state.group next.group && is_some place) ≡ b →
-        (if b
-        then record state { count = capped_count feed state.group (state.count + 1); first = false }
-        else state_of_run feed next.group 0 next (is_none place)).group ≡ next.group
-    by true is = same_groups state.group next.group (and_parts (same_group state.group next.group) (is_some place) is).0
-    by false is = refl
 
 -- what stands for a group is at most what stands for the groups that a field matches which matches it
 below_row : (amounts : List ℤ) (field : Option LegGroupId) (group : LegGroupId) → CanMatch field group →
@@ -312,15 +293,15 @@ late_counts feed limits state leg are past order own is next departs arrives cha
     (subst (λ (m : Moment). m.0 ≤ℤ next.arrival.0) (sym departs)
     (subst (λ (m : Moment). leg.departure.0 ≤ℤ m.0) (sym arrives) order))
 
-module _ (feed : FeedRows) (late : Bool) (rider : Option RiderId) (amounts : LeastAmounts) (before level : Level)
-    (least : AreLeastAmounts feed rider amounts) (next_level : IsNextLevel feed late amounts before level) where
+module _ (feed : FeedRows) (late : Bool) (buyer : Buyer) (amounts : LeastAmounts) (before level : Level)
+    (least : AreLeastAmounts feed buyer amounts) (next_level : IsNextLevel feed late amounts before level) where
   -- what follows a leg of the group costs no less than this, by what is paid and held then
   abbrev IsStep : ℤ → Option LegGroupId → ℤ → ℤ → Type 0
   IsStep told group paid held =
       told ≤ℤ int_min (paid +ℤ held +ℤ end_at amounts (place_of group)) (least_after before group paid held)
 
   -- after a leg to which no change is arranged
-  apart_step : (group next : Option LegGroupId) (paid held amount : ℤ) → CanPayLeg feed rider next amount →
+  apart_step : (group next : Option LegGroupId) (paid held amount : ℤ) → CanPayLeg feed buyer next amount →
       IsStep (least_after level group paid held) next (paid +ℤ (pos 0 +ℤ held +ℤ pos 0 +ℤ pos 0)) amount
   apart_step group next paid held amount pays =
       let apart = next_level.apart group next amount (least.legs next amount pays) in
@@ -331,15 +312,15 @@ module _ (feed : FeedRows) (late : Bool) (rider : Option RiderId) (amounts : Lea
   -- after a leg to which a change of the row is arranged
   change_step : (number : ℕ) (row : TransferRuleRow) (group next : LegGroupId) (paid held amount charge : ℤ) →
       slice_get feed.transfer_rules number ≡ Some row → counts late row ≡ true →
-      CanMatch row.from group → CanMatch row.to next → CanPayLeg feed rider (Some next) amount →
-      CanPayChange feed rider row.product charge →
+      CanMatch row.from group → CanMatch row.to next → CanPayLeg feed buyer (Some next) amount →
+      CanPayChange feed buyer row.product charge →
       IsStep (least_after level (Some group) paid held) (Some next)
       (paid +ℤ next_paid (pos 0) held (Some row.kind) amount charge)
       (next_held (Some row.kind) amount)
   change_step number row group next paid held amount charge is counted from to pays pays_change =
       let above =
       next_level.rows number row is next amount charge counted to (least.legs (Some next) amount pays)
-      (charge_low feed rider amounts least row.product charge pays_change) in
+      (charge_low feed buyer amounts least row.product charge pays_change) in
       change_sum (row.kind == change_alone) (includes_leg_after row.kind) paid held amount charge
       (end_at amounts (place_of (Some next))) (with_at before (place_of (Some next)))
       (without_at before (place_of (Some next)))
@@ -349,7 +330,7 @@ module _ (feed : FeedRows) (late : Bool) (rider : Option RiderId) (amounts : Lea
       (λ other. le_trans _ _ _ (below_row level.with_held.items row.from group from) (above.paid other))
 
   -- after a first leg
-  first_step : (next : Option LegGroupId) (paid amount : ℤ) → CanPayLeg feed rider next amount →
+  first_step : (next : Option LegGroupId) (paid amount : ℤ) → CanPayLeg feed buyer next amount →
       IsStep (paid +ℤ with_at level (place_of None)) next (paid +ℤ pos 0) amount
   first_step next paid amount pays =
       let apart = next_level.apart None next amount (least.legs next amount pays) in
@@ -358,53 +339,53 @@ module _ (feed : FeedRows) (late : Bool) (rider : Option RiderId) (amounts : Lea
 
   -- after a next leg, by the place of the change to it
   next_step : (state : FareState) (paid held : ℤ) (next : FareLeg) (amount : ℤ) (place : Option ChangeChoice) →
-      AllCount feed late state next → CanPayLeg feed rider next.group amount →
-      is_place_after feed rider (asked_after state next) place ≡ true →
+      AllCount feed late state next → CanPayLeg feed buyer next.group amount →
+      is_place_after feed buyer (asked_after state next) place ≡ true →
       IsStep (least_after level state.group paid held) next.group
       (paid +ℤ next_paid (pos 0) held (place_kind feed place) amount (place_charge feed place))
       (next_held (place_kind feed place) amount)
   unfolding is_row_after
   next_step state paid held next amount None all pays right = apart_step state.group next.group paid held amount pays
   next_step state paid held next amount (Some pick) all pays right =
-      let asked = filled_and-true (asked_after state next) (λ c. is_row_after feed rider c pick) right in
+      let asked = filled_and-true (asked_after state next) (λ c. is_row_after feed buyer c pick) right in
       let groups = asked_tells state next asked.value asked.is in
       let row =
       filled_and-true (slice_get feed.transfer_rules pick.rule.0)
-      (λ r. is_selected feed asked.value r && is_change_product feed rider r.product pick.product) asked.passes in
+      (λ r. is_selected feed asked.value r && is_change_product feed buyer r.product pick.product) asked.passes in
       let both = and_parts (is_selected feed asked.value row.value) _ row.passes in
       let matches = selected_matches feed asked.value row.value both.0 in
       by asked.value.from asked.value.to row.value
       (place_kind feed (Some pick)) state.group next.group groups.0 groups.1
       (ap (option_map (λ r. r.kind)) row.is) row.is (all asked.value asked.is pick.rule.0 row.value row.is both.0)
       matches.0 matches.1 pays
-      (change_paid feed rider row.value.product pick.product both.1)
+      (change_paid feed buyer row.value.product pick.product both.1)
     where
       by : (from to : LegGroupId) (row : TransferRuleRow) (kind : Option ℕ) (a b : Option LegGroupId) →
           a ≡ Some from → b ≡ Some to →
           kind ≡ Some row.kind → slice_get feed.transfer_rules pick.rule.0 ≡ Some row → counts late row ≡ true →
           CanMatch row.from from → CanMatch row.to to →
-          CanPayLeg feed rider b amount → CanPayChange feed rider row.product (place_charge feed (Some pick)) →
+          CanPayLeg feed buyer b amount → CanPayChange feed buyer row.product (place_charge feed (Some pick)) →
           IsStep (least_after level a paid held) b
           (paid +ℤ next_paid (pos 0) held kind amount (place_charge feed (Some pick))) (next_held kind amount)
       by from to row kind a b is_a is_b is_kind is counted from_matches to_matches pays_leg pays_change =
           rw (is_a, is_b, is_kind)
           (change_step pick.rule.0 row from to paid held amount
           (place_charge feed (Some pick)) is counted from_matches to_matches
-          (subst (λ (g : Option LegGroupId). CanPayLeg feed rider g amount) is_b pays_leg) pays_change)
+          (subst (λ (g : Option LegGroupId). CanPayLeg feed buyer g amount) is_b pays_leg) pays_change)
 
   -- no move leads below what is told before it
   pub level_step : (state : Option FareState) (paid held : ℤ) (leg : LegFacts) (move : Move) →
-      move_after feed rider state held leg move ≡ Some move → AllCountTo feed late state leg →
+      move_after feed buyer state held leg move ≡ Some move → AllCountTo feed late state leg →
       least_by level state paid held ≤ℤ
       int_min (paid +ℤ move.paid.0 +ℤ move.held.0 +ℤ end_at amounts (place_of move.state.group))
       (least_after before move.state.group (paid +ℤ move.paid.0) move.held.0)
   level_step None paid held leg move is all =
-      let m = first_tells feed rider leg move is in
+      let m = first_tells feed buyer leg move is in
       subst (λ (q : Move). IsStep (least_by level None paid held) q.state.group (paid +ℤ q.paid.0) q.held.0) m.follows
       (first_step m.first.group paid (amount_of feed move.product)
-      (leg_paid feed rider leg (leg_taken move) m.first m.chosen m.paid_leg))
+      (leg_paid feed buyer leg (leg_taken move) m.first m.chosen m.paid_leg))
   level_step (Some state) paid held leg move is all =
-      let m = next_tells feed rider state held leg move is in
+      let m = next_tells feed buyer state held leg move is in
       let times = chosen_times feed leg (leg_taken move) m.next m.chosen in
       let amount = amount_of feed move.product in
       let kind = place_kind feed (place_taken move) in
@@ -416,4 +397,4 @@ module _ (feed : FeedRows) (late : Bool) (rider : Option RiderId) (amounts : Lea
       (paid +ℤ next_paid (pos 0) held kind amount charge) (next_held kind amount))
       (sym (next_group feed state m.next (place_taken move)))
       (next_step state paid held m.next amount (place_taken move) (all state refl m.next times.0 times.1)
-      (leg_paid feed rider leg (leg_taken move) m.next m.chosen m.paid_leg) m.right_place))
+      (leg_paid feed buyer leg (leg_taken move) m.next m.chosen m.paid_leg) m.right_place))

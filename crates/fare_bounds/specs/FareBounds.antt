@@ -3,7 +3,7 @@ use Rattle.std.specs.Prelude.{◌≡◌, ◌<◌, ◌^◌, ℕ, ◌+◌, Bool, t
 use Rattle.std.specs.Int.{int_min}
 use Rattle.std.specs.Option.{option_map_or, ForSome}
 use Rattle.transit_base.specs.declared.numbers.LegGroupId.{LegGroupId}
-use Rattle.transit_base.specs.declared.numbers.RiderId.{RiderId}
+use Rattle.feed_rows.specs.declared.journeys.Buyer.{Buyer}
 use Rattle.feed_rows.specs.declared.journeys.LegFacts.{LegFacts}
 use Rattle.feed_rows.specs.declared.states.FareState.{FareState}
 use Rattle.feed_rows.specs.declared.states.Move.{Move}
@@ -57,24 +57,24 @@ late_after bounds state = option_and_then (late_by bounds.limits) state
 
 -- no move leads to where a journey can cost less than was told before it: neither one that goes on by fewer rides, nor
 -- one that ends with the move, where its leg may be the last
-pub record AreFareBounds (feed : FeedRows) (rider : Option RiderId) (rides : ℕ) (lasts : List Bool)
+pub record AreFareBounds (feed : FeedRows) (buyer : Buyer) (rides : ℕ) (lasts : List Bool)
     (bounds : BoundLists) : Type 0 where
   pub on : (more : ℕ) → more < rides → (state : Option FareState) (paid held : ℤ) (leg : LegFacts) (move : Move)
-      → move_after feed rider state held leg move ≡ Some move
+      → move_after feed buyer state held leg move ≡ Some move
       → least_more bounds (more + 1) state paid held
       ≤ℤ least_more bounds more (Some move.state) (paid +ℤ move.paid.0) move.held.0
   pub ends : (more : ℕ) → more < rides → (state : Option FareState) (paid held : ℤ) (leg : LegFacts) (move : Move)
-      → move_after feed rider state held leg move ≡ Some move
+      → move_after feed buyer state held leg move ≡ Some move
       → slice_get lasts (place_of move.state.group) ≡ Some true
       → least_more bounds (more + 1) state paid held ≤ℤ (paid +ℤ move.paid.0 +ℤ move.held.0)
   -- the same of legs that depart late, and don't arrive before they depart
   pub late_on : (more : ℕ) → more < rides → (state : Option FareState) (paid held : ℤ) (leg : LegFacts) (move : Move)
-      → move_after feed rider state held leg move ≡ Some move
+      → move_after feed buyer state held leg move ≡ Some move
       → ForSome (late_after bounds state) (λ moment. moment <ℤ leg.departure.0) → leg.departure.0 ≤ℤ leg.arrival.0
       → least_late bounds (more + 1) state paid held
       ≤ℤ least_more bounds more (Some move.state) (paid +ℤ move.paid.0) move.held.0
   pub late_ends : (more : ℕ) → more < rides → (state : Option FareState) (paid held : ℤ) (leg : LegFacts) (move : Move)
-      → move_after feed rider state held leg move ≡ Some move
+      → move_after feed buyer state held leg move ≡ Some move
       → ForSome (late_after bounds state) (λ moment. moment <ℤ leg.departure.0) → leg.departure.0 ≤ℤ leg.arrival.0
       → slice_get lasts (place_of move.state.group) ≡ Some true
       → least_late bounds (more + 1) state paid held ≤ℤ (paid +ℤ move.paid.0 +ℤ move.held.0)

@@ -6,12 +6,12 @@ use crate::amounts::{NEVER, at_place, place_of};
 use crate::level::Level;
 use crate::limits::{greatest_limits, late_by};
 use crate::payable::least_amounts;
-use feed_rows::{FareState, Feed};
+use feed_rows::{Buyer, FareState, Feed};
 use std::alloc::{AllocError, Global};
 use std::marker::Model;
-use transit_base::{LegGroupId, Money, RiderId};
+use transit_base::{LegGroupId, Money};
 
-/// How little further rides can cost by the fare rules of a feed for one rider. Contracts see it as its lists: for each
+/// How little further rides can cost by the fare rules of a feed for one buyer. Contracts see it as its lists: for each
 /// number of further rides what they add at least, by the place of the last leg's group, and the same where the next
 /// ride departs late.
 pub struct FareBounds {
@@ -48,13 +48,13 @@ impl FareBounds {
     pub fn of(
         alloc: Global,
         feed: &Feed,
-        rider: Option<RiderId>,
+        buyer: Buyer,
         rides: u8,
         lasts: &[bool],
     ) -> Result<FareBounds, AllocError>
-        ensures { IfOk result (λ bounds. AreFareBounds feed.now rider rides lasts.now bounds) }
+        ensures { IfOk result (λ bounds. AreFareBounds feed.now buyer rides lasts.now bounds) }
     {
-        let amounts = least_amounts(alloc, feed, rider, lasts)?;
+        let amounts = least_amounts(alloc, feed, buyer, lasts)?;
         let places = amounts.legs.len();
         let mut levels = Vec::with_capacity(alloc, usize::from(rides) + 1)?;
         let mut lates = Vec::with_capacity(alloc, usize::from(rides) + 1)?;

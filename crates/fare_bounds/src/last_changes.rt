@@ -6,7 +6,7 @@ ghost use Rattle.fare_bounds.specs.LastChanges.{AreLastChanges, AreLongestTo, ca
 
 use crate::amounts::row_place;
 use crate::limits::{late_by, longest_limit, raise};
-use feed_rows::{FareState, Feed, Limit};
+use feed_rows::{FareState, Feed, Limit, same_group};
 use std::alloc::{AllocError, Global};
 use std::marker::Model;
 use transit_base::LegGroupId;
@@ -36,16 +36,6 @@ impl Model for LastChanges {
     ghost Value = { List ℕ };
 
     ghost view = { λ s. s.limits.items };
-}
-
-/// Whether both groups are there, and equal.
-fn same_group(a: Option<LegGroupId>, b: Option<LegGroupId>) -> bool
-    ensures { result ≡ same_group a b }
-{
-    match (a, b) {
-        (Some(g), Some(h)) => g.0 == h.0,
-        _ => false,
-    }
 }
 
 /// Whether the group is one of these.

@@ -1,7 +1,7 @@
-//! The least amounts that a rider can pay, by product and by leg group, and by which groups a journey may end.
+//! The least amounts that a buyer can pay, by product and by leg group, and by which groups a journey may end.
 ghost use Rattle.fare_bounds.specs.Amounts.{AreAmounts};
 
-/// The least amounts that are open to a rider, in minor units; `NEVER` where there is none.
+/// The least amounts that are open to a buyer, in minor units; `NEVER` where there is none.
 pub struct LeastAmounts {
     /// Of each product.
     pub products: Vec<i64>,

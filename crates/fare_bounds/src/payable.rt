@@ -1,15 +1,15 @@
-//! What a rider can pay at least for products, for legs and for changes.
+//! What a buyer can pay at least for products, for legs and for changes.
 ghost use Rattle.std.specs.Prelude.{◌≡◌, ◌+◌, ◌<◌, ◌≤◌, ◌^◌, nat_abs, IfOk, vec_len, length, map};
 ghost use Rattle.fare_bounds.specs.Amounts.{end_by, AreAmounts, AreBelow, IsAmount};
 ghost use Rattle.fare_bounds.specs.Payable.{opens, charge_of, IsProductRowAbove, AreLeastOfProducts, AreLegRulesAbove, AreLeastAmounts};
 
 use crate::amounts::{NEVER, amount_at, lower, place_of};
 use crate::least::LeastAmounts;
-use feed_rows::{Feed, ProductRow};
+use feed_rows::{Buyer, Feed, ProductRow};
 use std::alloc::{AllocError, Global};
 use transit_base::{ProductId, RiderId};
 
-/// The least amounts of the feed that are open to the rider, where `lasts` tells by the place of a leg group whether a
+/// The least amounts of the feed that are open to the buyer, where `lasts` tells by the place of a leg group whether a
 /// journey's last leg may be of that group.
 ///
 /// # Errors
@@ -17,14 +17,14 @@ use transit_base::{ProductId, RiderId};
 pub fn least_amounts(
     alloc: Global,
     feed: &Feed,
-    rider: Option<RiderId>,
+    buyer: Buyer,
     lasts: &[bool],
 ) -> Result<LeastAmounts, AllocError>
-    ensures least { IfOk result (AreLeastAmounts feed.now rider) }
+    ensures least { IfOk result (AreLeastAmounts feed.now buyer) }
     ensures ends { IfOk result (λ amounts. amounts.ends.items ≡ map end_by lasts.now) }
     ensures len { IfOk result (λ amounts. vec_len amounts.legs ≡ length feed.now.group_names + 2) }
 {
-    let products = least_of_products(alloc, feed, rider)?;
+    let products = least_of_products(alloc, feed, buyer)?;
     let legs = least_of_legs(alloc, feed, &products)?;
     let ends = ends_of(alloc, lasts)?;
     Ok(LeastAmounts {
@@ -57,43 +57,39 @@ impl LeastAmounts {
     }
 }
 
-/// The least amount of each product that is open to the rider.
-fn least_of_products(
-    alloc: Global,
-    feed: &Feed,
-    rider: Option<RiderId>,
-) -> Result<Vec<i64>, AllocError>
-    ensures least { IfOk result (λ amounts. AreLeastOfProducts feed.now rider amounts.items) }
+/// The least amount of each product that is open to the buyer.
+fn least_of_products(alloc: Global, feed: &Feed, buyer: Buyer) -> Result<Vec<i64>, AllocError>
+    ensures least { IfOk result (λ amounts. AreLeastOfProducts feed.now buyer amounts.items) }
     ensures amounts { IfOk result (λ amounts. AreAmounts 1 amounts.items) }
 {
     let mut amounts = vec![in alloc; NEVER; feed.product_names.items().len()]?;
     for row in feed.products.items() {
-        lower_by(&mut amounts, row, rider);
+        lower_by(&mut amounts, row, buyer);
     }
     Ok(amounts)
 }
 
-/// Puts the amount of the row at the place of its product, where the row is open to the rider and no lesser one stands
+/// Puts the amount of the row at the place of its product, where the row is open to the buyer and no lesser one stands
 /// there.
-fn lower_by(amounts: &mut Vec<i64>, row: &ProductRow, rider: Option<RiderId>)
+fn lower_by(amounts: &mut Vec<i64>, row: &ProductRow, buyer: Buyer)
     requires product { row.now.product.0 < vec_len amounts.old }
     requires amount { nat_abs row.now.amount.0 ≤ 10 ^ 12 }
     requires before { AreAmounts 1 amounts.old.items }
     ensures below { AreBelow amounts.new.items amounts.old.items }
-    ensures row { IsProductRowAbove rider amounts.new.items row.now }
+    ensures row { IsProductRowAbove buyer amounts.new.items row.now }
     ensures after { AreAmounts 1 amounts.new.items }
     ensures len { vec_len amounts.new ≡ vec_len amounts.old }
 {
-    if opens(row.rider, rider) {
+    if opens(row.rider, buyer) {
         lower(amounts, row.product.0 as usize, row.amount.0);
     }
 }
 
-/// Whether a product row of this category is open to the rider.
-fn opens(category: Option<RiderId>, rider: Option<RiderId>) -> bool
-    ensures { result ≡ opens category rider }
+/// Whether a product row of this category is open to the buyer.
+fn opens(category: Option<RiderId>, buyer: Buyer) -> bool
+    ensures { result ≡ opens category buyer }
 {
-    match (category, rider) {
+    match (category, buyer.rider) {
         (Some(own), Some(other)) => other.0 == own.0,
         (Some(_), None) => false,
         (None, _) => true,

@@ -1,20 +1,14 @@
 //! From what some further rides add at least to what one ride more adds.
 ghost use Rattle.std.specs.Prelude.{◌≡◌, ℕ, ◌+◌, ◌*◌, ◌<◌, ◌≤ℤ◌, IfOk, length, vec_len};
-ghost use Rattle.feed_rows.specs.Codes.{includes_leg_after};
 ghost use Rattle.fare_bounds.specs.Amounts.{floor_of, IsAmount, row_place};
 ghost use Rattle.fare_bounds.specs.Levels.{costs_by, AreLegCosts, AreLesserCosts, AreCosts, AreCostsTo, IsLevelBelow, IsFilled, counts, added_by, IsChangeAbove, IsNextLevel};
 
 use crate::amounts::{NEVER, amount_at, at_place, lower, place_of, row_place};
 use crate::least::LeastAmounts;
 use crate::level::{LegCosts, Level};
-use feed_rows::{Feed, TransferRuleRow};
+use feed_rows::{CHANGE_ALONE, Feed, TransferRuleRow, includes_leg_after};
 use std::alloc::{AllocError, Global};
 use transit_base::LegGroupId;
-
-/// The `fare_transfer_type` under which only the first two of a leg, the change and the next leg are paid.
-const LEG_BEFORE_AND_CHANGE: u8 = 0;
-/// The `fare_transfer_type` under which only the change is paid.
-const CHANGE_ALONE: u8 = 2;
 
 impl LegCosts {
     /// Where there is no leg.
@@ -164,13 +158,6 @@ fn added_by(kind: u8, charge: i64, costs: &LegCosts) -> i64
     } else {
         charge + costs.charged
     }
-}
-
-/// Whether the leg after a change of this type is included in it.
-fn includes_leg_after(kind: u8) -> bool
-    ensures { result ≡ includes_leg_after kind }
-{
-    kind == LEG_BEFORE_AND_CHANGE || kind == CHANGE_ALONE
 }
 
 /// What a leg and what follows it add, where legs cost no less than this, and by what further rides and the end add.

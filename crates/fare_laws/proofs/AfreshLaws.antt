@@ -3,16 +3,15 @@ use Rattle.std.proofs.Common.{◌≡◌, refl, sym, ◌∙◌, ap, subst, ◌+�
 use Rattle.std.specs.Prelude.{if◌then◌else◌, Option, Some, None, is_none, slice_get, ℤ, pos}
 use Rattle.std.proofs.lemmas.Bool.{and_parts, both_ways}
 use Rattle.std.proofs.lemmas.Int.{ints}
-use Rattle.transit_base.specs.declared.numbers.RiderId.{RiderId}
+use Rattle.feed_rows.specs.declared.journeys.Buyer.{Buyer}
 use Rattle.feed_rows.specs.declared.fares.ChangeChoice.{ChangeChoice}
 use Rattle.feed_rows.specs.declared.journeys.LegFacts.{LegFacts}
 use Rattle.feed_rows.specs.declared.states.FareState.{FareState}
 use Rattle.feed_rows.specs.declared.states.Move.{Move}
 use Rattle.feed_rows.specs.FeedRows.{FeedRows}
 use Rattle.feed_rows.specs.FareChoices.{chosen_leg, is_leg_choice, is_change_product}
-use Rattle.feed_rows.specs.FareStands.{next_paid, next_held, place_kind, place_charge}
 use Rattle.feed_rows.specs.FareStates.{capped_count, state_of_run}
-use Rattle.feed_rows.specs.FareSteps.{leg_taken, place_taken, asked_after, is_arranged_after, is_row_after, is_place_after, next_state, first_move, next_move, move_of_first, move_of_next}
+use Rattle.feed_rows.specs.FareSteps.{next_paid, next_held, place_kind, place_charge, leg_taken, place_taken, asked_after, is_arranged_after, is_row_after, is_place_after, next_state, first_move, next_move, move_of_first, move_of_next}
 use Rattle.feed_rows.specs.FareSums.{amount_of}
 use Rattle.feed_rows.specs.TransferRules.{FareLeg, AskedChange, is_selected, same_group}
 use Rattle.plain_laws.specs.Plain.{filled_and}
@@ -20,23 +19,23 @@ use Rattle.plain_laws.proofs.Laws.{filled_and-true, list_any-place}
 use Rattle.fare_laws.proofs.MoveLaws.{first_tells, first_when, next_tells, next_when}
 
 -- a row that fills the place of a change shows that it is arranged
-pub arranged_by : (feed : FeedRows) (rider : Option RiderId) (change : AskedChange) (pick : ChangeChoice) →
-    is_row_after feed rider change pick ≡ true → is_arranged_after feed change ≡ true
+pub arranged_by : (feed : FeedRows) (buyer : Buyer) (change : AskedChange) (pick : ChangeChoice) →
+    is_row_after feed buyer change pick ≡ true → is_arranged_after feed change ≡ true
 unfolding is_row_after is_arranged_after
-arranged_by feed rider change pick holds =
+arranged_by feed buyer change pick holds =
     let f = filled_and-true (slice_get feed.transfer_rules pick.rule.0)
-    (λ rule. is_selected feed change rule && is_change_product feed rider rule.product pick.product) holds in
+    (λ rule. is_selected feed change rule && is_change_product feed buyer rule.product pick.product) holds in
     list_any-place (is_selected feed change) feed.transfer_rules pick.rule.0 f.value f.is (and_parts (is_selected feed change f.value) _ f.passes).0
 
 -- where no change is arranged, its place is empty
-place_empty : (feed : FeedRows) (rider : Option RiderId) (change : Option AskedChange) (place : Option ChangeChoice) →
-    filled_and change (is_arranged_after feed) ≡ false → is_place_after feed rider change place ≡ true → place ≡ None
-place_empty feed rider change None apart right = refl
-place_empty feed rider change (Some pick) apart right =
-    let some = filled_and-true change (λ c. is_row_after feed rider c pick) right in
+place_empty : (feed : FeedRows) (buyer : Buyer) (change : Option AskedChange) (place : Option ChangeChoice) →
+    filled_and change (is_arranged_after feed) ≡ false → is_place_after feed buyer change place ≡ true → place ≡ None
+place_empty feed buyer change None apart right = refl
+place_empty feed buyer change (Some pick) apart right =
+    let some = filled_and-true change (λ c. is_row_after feed buyer c pick) right in
     absurd (both_ways (filled_and change (is_arranged_after feed)) apart
     (ap (λ (c : Option AskedChange). filled_and c (is_arranged_after feed)) some.is
-    ∙ arranged_by feed rider some.value pick some.passes))
+    ∙ arranged_by feed buyer some.value pick some.passes))
 
 -- then the leg starts a run
 starts_run : (feed : FeedRows) (state : FareState) (next : FareLeg) →
@@ -62,11 +61,11 @@ pub record IsAlike (held : ℤ) (move first : Move) : Type 0 where
   pub holds : move.held ≡ first.held
   pub paid : move.paid.0 ≡ held
 
-module _ (feed : FeedRows) (rider : Option RiderId) (state : FareState) (held : ℤ) (leg : LegFacts) where
+module _ (feed : FeedRows) (buyer : Buyer) (state : FareState) (held : ℤ) (leg : LegFacts) where
   -- no change to the leg is arranged that the rule of the move makes of it
   abbrev pub IsApart : Move → Type 0
   IsApart move =
-      (next : FareLeg) → chosen_leg feed leg (leg_taken move) ≡ Some next → is_leg_choice feed rider leg (leg_taken move) ≡ true →
+      (next : FareLeg) → chosen_leg feed leg (leg_taken move) ≡ Some next → is_leg_choice feed buyer leg (leg_taken move) ≡ true →
       filled_and (asked_after state next) (is_arranged_after feed) ≡ false
 
   -- what follows of a move where the place of the change is so
@@ -79,16 +78,16 @@ module _ (feed : FeedRows) (rider : Option RiderId) (state : FareState) (held : 
       }
 
   -- then each move is like one of a first leg
-  pub first_of_next : (move : Move) → IsApart move → move_of_next feed rider state held leg move ≡ Some move →
-      (first : Move) × (move_of_first feed rider leg first ≡ Some first) × IsAlike held move first
+  pub first_of_next : (move : Move) → IsApart move → move_of_next feed buyer state held leg move ≡ Some move →
+      (first : Move) × (move_of_first feed buyer leg first ≡ Some first) × IsAlike held move first
   first_of_next move apart is =
-      let told = next_tells feed rider state held leg move is in
+      let told = next_tells feed buyer state held leg move is in
       let next = told.next in
-      let empty = place_empty feed rider (asked_after state next) (place_taken move) (apart next told.chosen told.paid_leg) told.right_place in
+      let empty = place_empty feed buyer (asked_after state next) (place_taken move) (apart next told.chosen told.paid_leg) told.right_place in
       let first = first_move feed next move in
       let follows = subst (λ (place : Option ChangeChoice). follows_by next move place ≡ move) empty told.follows in (
         first,
-        sym (first_when feed rider leg first next true told.chosen
+        sym (first_when feed buyer leg first next true told.chosen
             (sym (rw (told.paid_leg, empty, told.whole) refl))),
         record {
           leg = refl;
@@ -99,17 +98,17 @@ module _ (feed : FeedRows) (rider : Option RiderId) (state : FareState) (held : 
       )
 
   -- and each move of a first leg is like one
-  pub next_of_first : (first : Move) → IsApart first → move_of_first feed rider leg first ≡ Some first →
-      (move : Move) × (move_of_next feed rider state held leg move ≡ Some move) × IsAlike held move first
+  pub next_of_first : (first : Move) → IsApart first → move_of_first feed buyer leg first ≡ Some first →
+      (move : Move) × (move_of_next feed buyer state held leg move ≡ Some move) × IsAlike held move first
   next_of_first first apart is =
-      let told = first_tells feed rider leg first is in
+      let told = first_tells feed buyer leg first is in
       let next = told.first in
       let empty = none_is (place_taken first) told.no_change in
       let move = next_move feed state held next first in
       let same : move ≡ follows_by next first None =
       ap (follows_by next first) empty in (
         move,
-        sym (next_when feed rider leg move state held next true told.chosen
+        sym (next_when feed buyer leg move state held next true told.chosen
             (sym (rw (told.paid_leg, empty, apart next told.chosen told.paid_leg, told.whole) refl))),
         record {
           leg = refl;

@@ -4,14 +4,14 @@ use Rattle.std.proofs.Common.{◌≡◌, refl, sym, ◌∙◌, ap, subst, ℕ, z
 use Rattle.std.specs.Prelude.{if◌then◌else◌, Option, Some, None, is_none, ℤ, pos, ◌+ℤ◌, ◌-ℤ◌, slice_get, option_and_then, slice_index_or}
 use Rattle.std.specs.Option.{is_some}
 use Rattle.std.proofs.lemmas.Int.{ints}
-use Rattle.std.proofs.lemmas.Bool.{and_parts, eqb-true}
+use Rattle.std.proofs.lemmas.Bool.{and_parts}
 use Rattle.std.proofs.lemmas.List.{length_push}
 use Rattle.std.proofs.lemmas.Option.{same_Some, none-some, cond_some}
 use Rattle.std.proofs.Math.Seq.{take-append_seam, drop-append_seam}
 use Rattle.transit_base.specs.declared.numbers.LegGroupId.{LegGroupId}
-use Rattle.transit_base.specs.declared.numbers.RiderId.{RiderId}
 use Rattle.transit_base.specs.declared.numbers.ProductRowId.{ProductRowId}
 use Rattle.transit_base.specs.declared.numbers.XferId.{XferId}
+use Rattle.feed_rows.specs.declared.journeys.Buyer.{Buyer}
 use Rattle.feed_rows.specs.declared.fares.ChangeChoice.{ChangeChoice}
 use Rattle.feed_rows.specs.declared.fares.Choice.{Choice}
 use Rattle.feed_rows.specs.declared.fares.LegChoice.{LegChoice}
@@ -24,24 +24,20 @@ use Rattle.feed_rows.specs.FeedRows.{FeedRows}
 use Rattle.feed_rows.specs.TransferRules.{FareLeg, AskedChange, asked_change, same_group, is_same_group_at, run_start, is_selected, is_selected_transfer, is_arranged, IsRun}
 use Rattle.feed_rows.specs.FareChoices.{chosen_leg, fare_leg, is_leg_choice, is_change_product, is_transfer_choice, is_change_choice, is_fare_choice}
 use Rattle.feed_rows.specs.FareSums.{transfer_kind, starts_chain, amount_of}
-use Rattle.feed_rows.specs.FareStands.{Run, fresh_run, change_to, extends, next_run, IsRunAt, frees_first, frees_next, next_paid, place_kind, place_charge, FareStand, stand_of_next, next_fare_stand, IsStandOf}
+use Rattle.feed_rows.specs.FareStands.{fresh_run, extends, next_run, IsRunAt, FareStand, stand_of_next, next_fare_stand, IsStandOf}
 use Rattle.feed_rows.specs.FareStates.{held_of, held_amount, paid_amount, greatest_count, capped_count, state_of_run, state_at, state_of, fare_state}
-use Rattle.feed_rows.specs.FareSteps.{leg_taken, place_taken, is_whole, asked_after, is_arranged_after, is_row_after, is_place_after, next_state, next_move, move_of_next, AreMovesAfter}
+use Rattle.feed_rows.specs.FareSteps.{Run, change_to, frees_first, frees_next, next_paid, place_kind, place_charge, leg_taken, place_taken, is_whole, asked_after, is_arranged_after, is_row_after, is_place_after, next_state, next_move, move_of_next, AreMovesAfter}
 use Rattle.feed_rows.specs.FareExtensions.{changes_with, extended, Extends, BeginsWith, AreExtensions}
 use Rattle.plain_laws.specs.Plain.{filled_and, when}
 use Rattle.plain_laws.proofs.Laws.{list_any-place, slice_get-new_item}
 use Rattle.feed_laws.proofs.TransferLaws.{run_start-run}
 use Rattle.feed_laws.proofs.SumLaws.{IsPushed}
 use Rattle.feed_laws.proofs.StandLaws.{next_fare_stand-of, places_of_paid, IsStandOf-one, stand_of_paid, step_of_paid, paid_of_step}
+use Rattle.feed_laws.proofs.FareLaws.{same_group-equal}
 use Rattle.fare_laws.proofs.MoveLaws.{next_tells, next_when}
 use Rattle.fare_laws.proofs.StateLaws.{told, SameRows, selected_same, arranged_same, agree, capped_again}
 
 -- ---- the state of legs
-
-same_group-equal : (a b : Option LegGroupId) → same_group a b ≡ true → b ≡ a
-same_group-equal None b same = absurd (let no : false ≡ true = same in cc)
-same_group-equal (Some g) None same = absurd (let no : false ≡ true = same in cc)
-same_group-equal (Some g) (Some h) same = ap (λ (n : ℕ). Some (record { 0 = n })) (sym (eqb-true g.0 h.0 same))
 
 -- leg j has this group
 record HasGroup (leg : ℕ → Option FareLeg) (j : ℕ) (group : Option LegGroupId) : Type 0 where
@@ -73,7 +69,7 @@ group_along feed leg b i first run is (suc m) le =
         record {
           value = next;
           is = sym (ap leg place) ∙ at;
-          of_group = same_group-equal have.value.group next.group both ∙ have.of_group;
+          of_group = sym (same_group-equal have.value.group next.group both) ∙ have.of_group;
         }
 
 last_of_run : (feed : FeedRows) (leg : ℕ → Option FareLeg) (i : ℕ) (run : Run) → IsRunAt feed leg i run → HasGroup leg i run.first.group
@@ -120,10 +116,10 @@ module _ (feed : FeedRows) (legs : List LegFacts) (choice : Choice) (n : ℕ) (s
 
 -- ---- the place of a change
 
-module _ (feed : FeedRows) (rider : Option RiderId) (run : Run) (next : FareLeg) (is_first : Bool) where
+module _ (feed : FeedRows) (buyer : Buyer) (run : Run) (next : FareLeg) (is_first : Bool) where
   -- a place is right by the state where it is right by the run
   pub place_same : (place : Option ChangeChoice) →
-      is_place_after feed rider (asked_after (told feed run is_first) next) place ≡ is_change_choice feed rider (change_to run next) place
+      is_place_after feed buyer (asked_after (told feed run is_first) next) place ≡ is_change_choice feed buyer (change_to run next) place
   unfolding is_arranged_after is_arranged is_selected_transfer is_row_after is_transfer_choice
   place_same place =
       let known = agree feed run next is_first in
@@ -131,15 +127,15 @@ module _ (feed : FeedRows) (rider : Option RiderId) (run : Run) (next : FareLeg)
     where
       rows_same : (a b : AskedChange) → SameRows feed a b → (pick : ChangeChoice) → (o : Option TransferRuleRow) →
           slice_get feed.transfer_rules pick.rule.0 ≡ o →
-          filled_and o (λ rule. is_selected feed a rule && is_change_product feed rider rule.product pick.product)
-          ≡ filled_and o (λ rule. is_selected feed b rule && is_change_product feed rider rule.product pick.product)
+          filled_and o (λ rule. is_selected feed a rule && is_change_product feed buyer rule.product pick.product)
+          ≡ filled_and o (λ rule. is_selected feed b rule && is_change_product feed buyer rule.product pick.product)
       rows_same a b same pick None is = refl
       rows_same a b same pick (Some row) is =
-          ap (λ (s : Bool). s && is_change_product feed rider row.product pick.product) (selected_same feed a b same pick.rule.0 row is)
+          ap (λ (s : Bool). s && is_change_product feed buyer row.product pick.product) (selected_same feed a b same pick.rule.0 row is)
 
       by : (a : Option AskedChange) (c : Option TransferFacts) → is_some a ≡ is_some c →
           ((asked : AskedChange) (change : TransferFacts) → a ≡ Some asked → c ≡ Some change → SameRows feed asked (asked_change change)) →
-          (place : Option ChangeChoice) → is_place_after feed rider a place ≡ is_change_choice feed rider c place
+          (place : Option ChangeChoice) → is_place_after feed buyer a place ≡ is_change_choice feed buyer c place
       by None None some rows None = refl
       by None None some rows (Some pick) = refl
       by (Some a) None some rows place = absurd (let no : true ≡ false = some in cc)
@@ -153,19 +149,19 @@ record IsRightPlace (feed : FeedRows) (change : Option TransferFacts) (place : O
   pub filled : is_some place ≡ filled_and change (is_arranged feed)
   pub kind : is_none (place_kind feed place) ≡ is_none place
 
-right_place : (feed : FeedRows) (rider : Option RiderId) (change : Option TransferFacts) (place : Option ChangeChoice) →
-    is_change_choice feed rider change place ≡ true → IsRightPlace feed change place
+right_place : (feed : FeedRows) (buyer : Buyer) (change : Option TransferFacts) (place : Option ChangeChoice) →
+    is_change_choice feed buyer change place ≡ true → IsRightPlace feed change place
 unfolding is_arranged is_transfer_choice
-right_place feed rider change None right = record { filled = by (filled_and change (is_arranged feed)) right; kind = refl }
+right_place feed buyer change None right = record { filled = by (filled_and change (is_arranged feed)) right; kind = refl }
   where
     by : (b : Bool) → not b ≡ true → false ≡ b
     by false e = refl
     by true e = e
-right_place feed rider None (Some pick) right = absurd (let no : false ≡ true = right in cc)
-right_place feed rider (Some change) (Some pick) right = by (slice_get feed.transfer_rules pick.rule.0) refl right
+right_place feed buyer None (Some pick) right = absurd (let no : false ≡ true = right in cc)
+right_place feed buyer (Some change) (Some pick) right = by (slice_get feed.transfer_rules pick.rule.0) refl right
   where
     by : (o : Option TransferRuleRow) → slice_get feed.transfer_rules pick.rule.0 ≡ o →
-        filled_and o (λ rule. is_selected_transfer feed change rule && is_change_product feed rider rule.product pick.product) ≡ true →
+        filled_and o (λ rule. is_selected_transfer feed change rule && is_change_product feed buyer rule.product pick.product) ≡ true →
         IsRightPlace feed (Some change) (Some pick)
     by None is e = absurd (let no : false ≡ true = e in cc)
     by (Some row) is e =
@@ -251,15 +247,15 @@ row_of : Option ChangeChoice → Move → Move
 row_of None move = record move { xfer = None; xfer_product = None }
 row_of (Some pick) move = record move { xfer = Some pick.rule; xfer_product = pick.product }
 
-module _ (feed : FeedRows) (rider : Option RiderId) (legs : List LegFacts) (leg : LegFacts) (choice : Choice) (n : ℕ) (stand : FareStand)
-    (is_first : Bool) (long : length legs ≡ suc n) (pays : is_fare_choice feed legs choice rider ≡ true)
+module _ (feed : FeedRows) (buyer : Buyer) (legs : List LegFacts) (leg : LegFacts) (choice : Choice) (n : ℕ) (stand : FareStand)
+    (is_first : Bool) (long : length legs ≡ suc n) (pays : is_fare_choice feed legs choice buyer ≡ true)
     (at : IsStandOf feed legs choice n stand) where
   abbrev state : FareState
   state = told feed stand.run is_first
 
   places : (length choice.legs ≡ suc n) × (length choice.changes ≡ n)
   places =
-      let p = places_of_paid feed rider legs choice pays in
+      let p = places_of_paid feed buyer legs choice pays in
       let a = p.0 in
       let b = p.1 in
       (omega (arith, a, long), omega (arith, b, long))
@@ -277,26 +273,26 @@ module _ (feed : FeedRows) (rider : Option RiderId) (legs : List LegFacts) (leg 
   record IsMove (move : Move) : Type 0 where
     pub next : FareLeg
     pub chosen : chosen_leg feed leg (leg_taken move) ≡ Some next
-    pub paid_leg : is_leg_choice feed rider leg (leg_taken move) ≡ true
-    pub paid_change : is_change_choice feed rider (change_to stand.run next) (place_taken move) ≡ true
+    pub paid_leg : is_leg_choice feed buyer leg (leg_taken move) ≡ true
+    pub paid_change : is_change_choice feed buyer (change_to stand.run next) (place_taken move) ≡ true
     pub whole : is_whole move ≡ true
     pub follows : next_move feed state stand.held next move ≡ move
 
-  tells : (move : Move) → move_of_next feed rider state stand.held leg move ≡ Some move → IsMove move
+  tells : (move : Move) → move_of_next feed buyer state stand.held leg move ≡ Some move → IsMove move
   tells move is =
-      let m = next_tells feed rider state stand.held leg move is in
+      let m = next_tells feed buyer state stand.held leg move is in
       record {
         next = m.next;
         chosen = m.chosen;
         paid_leg = m.paid_leg;
-        paid_change = sym (place_same feed rider stand.run m.next is_first (place_taken move)) ∙ m.right_place;
+        paid_change = sym (place_same feed buyer stand.run m.next is_first (place_taken move)) ∙ m.right_place;
         whole = m.whole;
         follows = m.follows;
       }
 
   -- its step along legs
   step_of : (move : Move) (m : IsMove move) →
-      next_fare_stand feed rider stand leg (leg_taken move) (place_taken move) ≡ Some (stand_of_next feed stand m.next (leg_taken move) (place_taken move))
+      next_fare_stand feed buyer stand leg (leg_taken move) (place_taken move) ≡ Some (stand_of_next feed stand m.next (leg_taken move) (place_taken move))
   unfolding next_fare_stand
   step_of move m =
       let chosen = m.chosen in
@@ -313,7 +309,7 @@ module _ (feed : FeedRows) (rider : Option RiderId) (legs : List LegFacts) (leg 
       rw last refl
 
   -- a move that there is extends the choice
-  pub extends_of : (move : Move) → move_of_next feed rider state stand.held leg move ≡ Some move → Extends feed rider legs choice leg move
+  pub extends_of : (move : Move) → move_of_next feed buyer state stand.held leg move ≡ Some move → Extends feed buyer legs choice leg move
   unfolding starts_chain
   extends_of move is =
       let m = tells move is in
@@ -322,11 +318,11 @@ module _ (feed : FeedRows) (rider : Option RiderId) (legs : List LegFacts) (leg 
       let more_long' : length (extended choice move).legs ≡ suc (suc n) = length_push choice.legs (leg_taken move) ∙ omega (arith, places.0) in
       let after = stand_of_next feed stand m.next (leg_taken move) (place_taken move) in
       let more_at : IsStandOf feed (legs ++ leg ∷ []) (extended choice move) (suc n) after =
-      next_fare_stand-of feed rider legs leg choice (place_taken move) (leg_taken move) (extended choice move) n stand long p at after (step_of move m) in
-      let right = right_place feed rider (change_to stand.run m.next) (place_taken move) m.paid_change in
+      next_fare_stand-of feed buyer legs leg choice (place_taken move) (leg_taken move) (extended choice move) n stand long p at after (step_of move m) in
+      let right = right_place feed buyer (change_to stand.run m.next) (place_taken move) m.paid_change in
       record {
         whole = m.whole;
-        pays = paid_of_step feed rider legs leg choice (place_taken move) (leg_taken move) (extended choice move) n stand after long p pays at (step_of move m);
+        pays = paid_of_step feed buyer legs leg choice (place_taken move) (leg_taken move) (extended choice move) n stand after long p pays at (step_of move m);
         paid =
             paid_amount-stand feed (legs ++ leg ∷ []) (extended choice move) (suc n) after more_long more_long' more_at
             ∙ next_paid-from stand.paid stand.held _ _ (place_kind feed (place_taken move))
@@ -370,42 +366,42 @@ module _ (feed : FeedRows) (rider : Option RiderId) (legs : List LegFacts) (leg 
 
   -- a move that takes a right pick and place, and says what follows, is one
   is_move : (move : Move) (next : FareLeg) → chosen_leg feed leg (leg_taken move) ≡ Some next →
-      is_leg_choice feed rider leg (leg_taken move) ≡ true →
-      is_change_choice feed rider (change_to stand.run next) (place_taken move) ≡ true → is_whole move ≡ true →
-      next_move feed state stand.held next move ≡ move → move_of_next feed rider state stand.held leg move ≡ Some move
+      is_leg_choice feed buyer leg (leg_taken move) ≡ true →
+      is_change_choice feed buyer (change_to stand.run next) (place_taken move) ≡ true → is_whole move ≡ true →
+      next_move feed state stand.held next move ≡ move → move_of_next feed buyer state stand.held leg move ≡ Some move
   is_move move next chosen paid_leg paid_change whole again =
-      sym (next_when feed rider leg move state stand.held next true chosen
-      (all_true _ _ _ paid_leg (place_same feed rider stand.run next is_first (place_taken move) ∙ paid_change) whole))
+      sym (next_when feed buyer leg move state stand.held next true chosen
+      (all_true _ _ _ paid_leg (place_same feed buyer stand.run next is_first (place_taken move) ∙ paid_change) whole))
       ∙ ap Some again
 
   -- and so is the one that is made, where there is the step
   made_is_move : (pick : LegChoice) (place : Option ChangeChoice) (after : FareStand) →
-      next_fare_stand feed rider stand leg pick place ≡ Some after →
-      (next : FareLeg) × (move_of_next feed rider state stand.held leg (made next pick place) ≡ Some (made next pick place))
+      next_fare_stand feed buyer stand leg pick place ≡ Some after →
+      (next : FareLeg) × (move_of_next feed buyer state stand.held leg (made next pick place) ≡ Some (made next pick place))
   unfolding next_fare_stand
   made_is_move pick place after step = by (chosen_leg feed leg pick) refl step
     where
       by : (o : Option FareLeg) → chosen_leg feed leg pick ≡ o →
-          option_and_then (λ next. when (is_leg_choice feed rider leg pick && is_change_choice feed rider (change_to stand.run next) place)
+          option_and_then (λ next. when (is_leg_choice feed buyer leg pick && is_change_choice feed buyer (change_to stand.run next) place)
           (stand_of_next feed stand next pick place)) o ≡ Some after →
-          (next : FareLeg) × (move_of_next feed rider state stand.held leg (made next pick place) ≡ Some (made next pick place))
+          (next : FareLeg) × (move_of_next feed buyer state stand.held leg (made next pick place) ≡ Some (made next pick place))
       by None chosen e = absurd (none-some after e)
       by (Some next) chosen e =
           let test = (cond_some _ _ _ e).0 in
-          let both = and_parts (is_leg_choice feed rider leg pick) _ test in
+          let both = and_parts (is_leg_choice feed buyer leg pick) _ test in
           let m = is_made next pick place in (
             next,
             is_move (made next pick place) next
                 (ap (chosen_leg feed leg) m.takes_leg ∙ chosen)
-                (ap (is_leg_choice feed rider leg) m.takes_leg ∙ both.0)
-                (ap (is_change_choice feed rider (change_to stand.run next)) m.takes_place ∙ both.1) m.whole m.again,
+                (ap (is_leg_choice feed buyer leg) m.takes_leg ∙ both.0)
+                (ap (is_change_choice feed buyer (change_to stand.run next)) m.takes_place ∙ both.1) m.whole m.again,
           )
 
   -- each longer choice is made by a move that there is
-  pub all_of : (longer : Choice) → is_fare_choice feed (legs ++ leg ∷ []) longer rider ≡ true → BeginsWith choice longer →
-      (move : Move) × (move_of_next feed rider state stand.held leg move ≡ Some move) × (longer ≡ extended choice move)
+  pub all_of : (longer : Choice) → is_fare_choice feed (legs ++ leg ∷ []) longer buyer ≡ true → BeginsWith choice longer →
+      (move : Move) × (move_of_next feed buyer state stand.held leg move ≡ Some move) × (longer ≡ extended choice move)
   all_of longer paid begins =
-      let s = step_of_paid feed rider legs leg longer n long paid in
+      let s = step_of_paid feed buyer legs leg longer n long paid in
       let same_legs = same_parts s.last.choice.legs choice.legs (s.last.pick ∷ []) begins.legs.0
       (s.last.pushed.legs ∙ sym places.0) (sym s.last.pushed.more_legs ∙ begins.legs.1) in
       let same_changes = same_parts s.last.choice.changes choice.changes (s.last.place ∷ []) begins.changes.0
@@ -413,8 +409,8 @@ module _ (feed : FeedRows) (rider : Option RiderId) (legs : List LegFacts) (leg 
       let same : s.last.choice ≡ choice = same_choice s.last.choice choice same_legs.0 same_changes.0 in
       let stands : s.before.stand ≡ stand =
       IsStandOf-one feed legs choice n s.before.stand stand (subst (λ (c : Choice). IsStandOf feed legs c n s.before.stand) same s.before.of) at in
-      let step : next_fare_stand feed rider stand leg s.last.pick s.last.place ≡ Some s.after =
-      subst (λ (t : FareStand). next_fare_stand feed rider t leg s.last.pick s.last.place ≡ Some s.after) stands s.step in
+      let step : next_fare_stand feed buyer stand leg s.last.pick s.last.place ≡ Some s.after =
+      subst (λ (t : FareStand). next_fare_stand feed buyer t leg s.last.pick s.last.place ≡ Some s.after) stands s.step in
       let found = made_is_move s.last.pick s.last.place s.after step in
       let m = is_made found.0 s.last.pick s.last.place in
       let p = pushed (made found.0 s.last.pick s.last.place) in (
@@ -440,7 +436,7 @@ module _ (feed : FeedRows) (rider : Option RiderId) (legs : List LegFacts) (leg 
       by (Some x) row whole = refl
 
   -- moves that there are and that make one choice are one
-  pub once_of : (a b : Move) → move_of_next feed rider state stand.held leg a ≡ Some a → move_of_next feed rider state stand.held leg b ≡ Some b →
+  pub once_of : (a b : Move) → move_of_next feed buyer state stand.held leg a ≡ Some a → move_of_next feed buyer state stand.held leg b ≡ Some b →
       extended choice a ≡ extended choice b → a ≡ b
   once_of a b is is' same =
       let m = tells a is in
@@ -458,7 +454,7 @@ module _ (feed : FeedRows) (rider : Option RiderId) (legs : List LegFacts) (leg 
       ∙ sym (rebuilt m'.next b m'.whole) ∙ m'.follows
 
   -- the moves that there are after the state are exactly those that extend the choice
-  pub moves_extend : (moves : List Move) → AreMovesAfter feed rider (Some state) stand.held leg moves → AreExtensions feed rider legs choice leg moves
+  pub moves_extend : (moves : List Move) → AreMovesAfter feed buyer (Some state) stand.held leg moves → AreExtensions feed buyer legs choice leg moves
   moves_extend moves are = record {
     right = λ k d lt. extends_of (slice_index_or moves k d) (are.right k d lt);
     all = λ longer paid begins.
@@ -468,17 +464,17 @@ module _ (feed : FeedRows) (rider : Option RiderId) (legs : List LegFacts) (leg 
   }
 
 -- the moves after the state and what is held of any legs are exactly those that extend the choice that pays them
-pub step_extends : (feed : FeedRows) (rider : Option RiderId) (legs : List LegFacts) (choice : Choice) (leg : LegFacts) (state : FareState) (held : ℤ)
-    (moves : List Move) → is_fare_choice feed legs choice rider ≡ true → fare_state feed legs choice ≡ Some state → held_amount feed choice ≡ held →
-    AreMovesAfter feed rider (Some state) held leg moves → AreExtensions feed rider legs choice leg moves
+pub step_extends : (feed : FeedRows) (buyer : Buyer) (legs : List LegFacts) (choice : Choice) (leg : LegFacts) (state : FareState) (held : ℤ)
+    (moves : List Move) → is_fare_choice feed legs choice buyer ≡ true → fare_state feed legs choice ≡ Some state → held_amount feed choice ≡ held →
+    AreMovesAfter feed buyer (Some state) held leg moves → AreExtensions feed buyer legs choice leg moves
 unfolding fare_state
-step_extends feed rider [] choice leg after held moves pays is_state is_held are = absurd (none-some after is_state)
-step_extends feed rider (l ∷ ls) choice leg after held moves pays is_state is_held are =
+step_extends feed buyer [] choice leg after held moves pays is_state is_held are = absurd (none-some after is_state)
+step_extends feed buyer (l ∷ ls) choice leg after held moves pays is_state is_held are =
     let long : length (l ∷ ls) ≡ suc (length ls) = refl in
-    let stands = stand_of_paid feed rider (l ∷ ls) choice (length ls) long pays in
-    let places = (places_of_paid feed rider (l ∷ ls) choice pays).0 in
+    let stands = stand_of_paid feed buyer (l ∷ ls) choice (length ls) long pays in
+    let places = (places_of_paid feed buyer (l ∷ ls) choice pays).0 in
     let same_state = same_Some _ _ (sym (fare_state-told feed (l ∷ ls) choice (length ls) stands.stand long places stands.of) ∙ is_state) in
     let same_held = sym (held_amount-stand feed (l ∷ ls) choice (length ls) stands.stand long places stands.of) ∙ is_held in
-    moves_extend feed rider (l ∷ ls) leg choice (length ls) stands.stand (starts_chain (transfer_kind feed choice) (length ls)) long pays stands.of moves
-    (subst (λ (h : ℤ). AreMovesAfter feed rider (Some (told feed stands.stand.run (starts_chain (transfer_kind feed choice) (length ls)))) h leg moves) (sym same_held)
-    (subst (λ (s : FareState). AreMovesAfter feed rider (Some s) held leg moves) (sym same_state) are))
+    moves_extend feed buyer (l ∷ ls) leg choice (length ls) stands.stand (starts_chain (transfer_kind feed choice) (length ls)) long pays stands.of moves
+    (subst (λ (h : ℤ). AreMovesAfter feed buyer (Some (told feed stands.stand.run (starts_chain (transfer_kind feed choice) (length ls)))) h leg moves) (sym same_held)
+    (subst (λ (s : FareState). AreMovesAfter feed buyer (Some s) held leg moves) (sym same_state) are))

@@ -8,7 +8,7 @@ use Rattle.std.proofs.lemmas.Int.{ints, fold-int_min_bounds}
 use Rattle.std.proofs.lemmas.Option.{slice_get-map}
 use Rattle.transit_base.specs.declared.numbers.ProductId.{ProductId}
 use Rattle.transit_base.specs.declared.numbers.ProductRowId.{ProductRowId}
-use Rattle.transit_base.specs.declared.numbers.RiderId.{RiderId}
+use Rattle.feed_rows.specs.declared.journeys.Buyer.{Buyer}
 use Rattle.feed_rows.specs.declared.fares.ChangeChoice.{ChangeChoice}
 use Rattle.feed_rows.specs.declared.fares.LegChoice.{LegChoice}
 use Rattle.feed_rows.specs.declared.journeys.LegFacts.{LegFacts}
@@ -20,8 +20,7 @@ use Rattle.feed_rows.specs.FeedRows.{FeedRows}
 use Rattle.feed_rows.specs.Codes.{change_alone, includes_leg_after}
 use Rattle.feed_rows.specs.FareChoices.{is_open, is_leg_choice, is_change_product}
 use Rattle.feed_rows.specs.FareFloor.{is_for_legs, is_for_changes, least_amount, fare_floor}
-use Rattle.feed_rows.specs.FareStands.{frees_first, next_paid, next_held, place_kind, place_charge}
-use Rattle.feed_rows.specs.FareSteps.{move_after, leg_taken, place_taken, is_place_after, is_row_after, asked_after}
+use Rattle.feed_rows.specs.FareSteps.{frees_first, next_paid, next_held, place_kind, place_charge, move_after, leg_taken, place_taken, is_place_after, is_row_after, asked_after}
 use Rattle.feed_rows.specs.FareSums.{amount_of}
 use Rattle.feed_rows.specs.LegRules.{is_selected_rule}
 use Rattle.feed_rows.specs.TransferRules.{AskedChange, is_selected}
@@ -51,12 +50,12 @@ module _ (test : ProductRow → Bool) (rows : List ProductRow) where
 
 -- ---- legs and changes
 
-module _ (feed : FeedRows) (rider : Option RiderId) where
+module _ (feed : FeedRows) (buyer : Buyer) where
   abbrev leg_floor : ℤ
-  leg_floor = least_amount (is_for_legs feed rider) feed.products
+  leg_floor = least_amount (is_for_legs feed buyer) feed.products
 
   abbrev change_floor : ℤ
-  change_floor = least_amount (is_for_changes feed rider) feed.products
+  change_floor = least_amount (is_for_changes feed buyer) feed.products
 
   -- what a row costs that passes a test
   row_amount : (test : ProductRow → Bool) (number : ProductRowId) (row : ProductRow) →
@@ -66,40 +65,40 @@ module _ (feed : FeedRows) (rider : Option RiderId) where
   row_amount test number row is counts = rw is (least_of_row test feed.products number.0 row is counts)
 
   -- a leg costs no less than its floor
-  leg_above : (leg : LegFacts) (pick : LegChoice) → is_leg_choice feed rider leg pick ≡ true →
+  leg_above : (leg : LegFacts) (pick : LegChoice) → is_leg_choice feed buyer leg pick ≡ true →
       leg_floor ≤ℤ amount_of feed pick.product
   unfolding is_leg_choice
   leg_above leg pick is =
       let rule =
       filled_and-true (slice_get feed.leg_rules pick.rule.0)
-      (λ r. is_selected_rule feed leg r && at_and feed.products pick.product.0 (is_open r.product rider)) is in
+      (λ r. is_selected_rule feed leg r && at_and feed.products pick.product.0 (is_open r.product buyer)) is in
       let both = and_parts (is_selected_rule feed leg rule.value) _ rule.passes in
-      let row = filled_and-true (slice_get feed.products pick.product.0) (is_open rule.value.product rider) both.1 in
-      row_amount (is_for_legs feed rider) pick.product row.value row.is
-      (list_any-place (λ r. is_open r.product rider row.value) feed.leg_rules pick.rule.0 rule.value rule.is row.passes)
+      let row = filled_and-true (slice_get feed.products pick.product.0) (is_open rule.value.product buyer) both.1 in
+      row_amount (is_for_legs feed buyer) pick.product row.value row.is
+      (list_any-place (λ r. is_open r.product buyer row.value) feed.leg_rules pick.rule.0 rule.value rule.is row.passes)
 
   -- nor does a change
   change_above : (change : Option AskedChange) (place : Option ChangeChoice) →
-      is_place_after feed rider change place ≡ true → change_floor ≤ℤ place_charge feed place
+      is_place_after feed buyer change place ≡ true → change_floor ≤ℤ place_charge feed place
   unfolding is_row_after
-  change_above change None is = least_below (is_for_changes feed rider) feed.products
+  change_above change None is = least_below (is_for_changes feed buyer) feed.products
   change_above change (Some pick) is =
-      let asked = filled_and-true change (λ c. is_row_after feed rider c pick) is in
+      let asked = filled_and-true change (λ c. is_row_after feed buyer c pick) is in
       let rule =
       filled_and-true (slice_get feed.transfer_rules pick.rule.0)
-      (λ r. is_selected feed asked.value r && is_change_product feed rider r.product pick.product) asked.passes in
+      (λ r. is_selected feed asked.value r && is_change_product feed buyer r.product pick.product) asked.passes in
       let both = and_parts (is_selected feed asked.value rule.value) _ rule.passes in
       by rule.value rule.is rule.value.product pick.product refl both.1
     where
       by : (rule : TransferRuleRow) → slice_get feed.transfer_rules pick.rule.0 ≡ Some rule → (product : Option ProductId)
-          (row : Option ProductRowId) → rule.product ≡ product → is_change_product feed rider product row ≡ true →
+          (row : Option ProductRowId) → rule.product ≡ product → is_change_product feed buyer product row ≡ true →
           change_floor ≤ℤ option_map_or (amount_of feed) row (pos 0)
-      by rule is_rule product None of right = least_below (is_for_changes feed rider) feed.products
+      by rule is_rule product None of right = least_below (is_for_changes feed buyer) feed.products
       by rule is_rule None (Some number) of right = absurd (let no : false ≡ true = right in cc)
       by rule is_rule (Some product) (Some number) of right =
-          let row = filled_and-true (slice_get feed.products number.0) (is_open product rider) right in
-          row_amount (is_for_changes feed rider) number row.value row.is
-          (list_any-place (λ r. filled_and r.product (λ p. is_open p rider row.value)) feed.transfer_rules pick.rule.0
+          let row = filled_and-true (slice_get feed.products number.0) (is_open product buyer) right in
+          row_amount (is_for_changes feed buyer) number row.value row.is
+          (list_any-place (λ r. filled_and r.product (λ p. is_open p buyer row.value)) feed.transfer_rules pick.rule.0
           rule is_rule (rw of row.passes))
 
 -- ---- moves
@@ -176,49 +175,49 @@ least_first paid held amount legs changes l c a =
     dear z p = omega (arith, ints, l, c, a, p)
 
 -- the least price after a move is no less than the one before it with the floor
-pub low_move : (feed : FeedRows) (rider : Option RiderId) (state : Option FareState) (paid held : ℤ) (leg : LegFacts)
-    (move : Move) → move_after feed rider state held leg move ≡ Some move →
-    (int_min paid (paid +ℤ held) +ℤ fare_floor feed rider) ≤ℤ
+pub low_move : (feed : FeedRows) (buyer : Buyer) (state : Option FareState) (paid held : ℤ) (leg : LegFacts)
+    (move : Move) → move_after feed buyer state held leg move ≡ Some move →
+    (int_min paid (paid +ℤ held) +ℤ fare_floor feed buyer) ≤ℤ
     int_min (paid +ℤ move.paid.0) (paid +ℤ move.paid.0 +ℤ move.held.0)
 unfolding fare_floor
-low_move feed rider None paid held leg move is =
-    let m = first_tells feed rider leg move is in
-    subst (λ (q : Move). (int_min paid (paid +ℤ held) +ℤ fare_floor feed rider) ≤ℤ int_min (paid +ℤ q.paid.0) (paid +ℤ q.paid.0 +ℤ q.held.0))
+low_move feed buyer None paid held leg move is =
+    let m = first_tells feed buyer leg move is in
+    subst (λ (q : Move). (int_min paid (paid +ℤ held) +ℤ fare_floor feed buyer) ≤ℤ int_min (paid +ℤ q.paid.0) (paid +ℤ q.paid.0 +ℤ q.held.0))
     m.follows
-    (least_first paid held (amount_of feed move.product) (leg_floor feed rider) (change_floor feed rider)
-    (least_below (is_for_legs feed rider) feed.products) (least_below (is_for_changes feed rider) feed.products)
-    (leg_above feed rider leg (leg_taken move) m.paid_leg))
-low_move feed rider (Some state) paid held leg move is =
-    let m = next_tells feed rider state held leg move is in
-    subst (λ (q : Move). (int_min paid (paid +ℤ held) +ℤ fare_floor feed rider) ≤ℤ int_min (paid +ℤ q.paid.0) (paid +ℤ q.paid.0 +ℤ q.held.0))
+    (least_first paid held (amount_of feed move.product) (leg_floor feed buyer) (change_floor feed buyer)
+    (least_below (is_for_legs feed buyer) feed.products) (least_below (is_for_changes feed buyer) feed.products)
+    (leg_above feed buyer leg (leg_taken move) m.paid_leg))
+low_move feed buyer (Some state) paid held leg move is =
+    let m = next_tells feed buyer state held leg move is in
+    subst (λ (q : Move). (int_min paid (paid +ℤ held) +ℤ fare_floor feed buyer) ≤ℤ int_min (paid +ℤ q.paid.0) (paid +ℤ q.paid.0 +ℤ q.held.0))
     m.follows
-    (least_after paid held (amount_of feed move.product) (place_charge feed (place_taken move)) (leg_floor feed rider)
-    (change_floor feed rider) (least_below (is_for_legs feed rider) feed.products)
-    (least_below (is_for_changes feed rider) feed.products) (leg_above feed rider leg (leg_taken move) m.paid_leg)
-    (change_above feed rider (asked_after state m.next) (place_taken move) m.right_place)
+    (least_after paid held (amount_of feed move.product) (place_charge feed (place_taken move)) (leg_floor feed buyer)
+    (change_floor feed buyer) (least_below (is_for_legs feed buyer) feed.products)
+    (least_below (is_for_changes feed buyer) feed.products) (leg_above feed buyer leg (leg_taken move) m.paid_leg)
+    (change_above feed buyer (asked_after state m.next) (place_taken move) m.right_place)
     (place_kind feed (place_taken move)))
 
 -- so is the price after a move that takes nothing back
-pub low_price : (feed : FeedRows) (rider : Option RiderId) (state : FareState) (paid held : ℤ) (leg : LegFacts)
-    (move : Move) → move_after feed rider (Some state) held leg move ≡ Some move →
+pub low_price : (feed : FeedRows) (buyer : Buyer) (state : FareState) (paid held : ℤ) (leg : LegFacts)
+    (move : Move) → move_after feed buyer (Some state) held leg move ≡ Some move →
     frees_first (place_kind feed (place_taken move)) ≡ false →
-    (paid +ℤ held +ℤ fare_floor feed rider) ≤ℤ (paid +ℤ move.paid.0 +ℤ move.held.0)
+    (paid +ℤ held +ℤ fare_floor feed buyer) ≤ℤ (paid +ℤ move.paid.0 +ℤ move.held.0)
 unfolding fare_floor
-low_price feed rider state paid held leg move is none =
-    let m = next_tells feed rider state held leg move is in
-    subst (λ (q : Move). (paid +ℤ held +ℤ fare_floor feed rider) ≤ℤ (paid +ℤ q.paid.0 +ℤ q.held.0)) m.follows
-    (price_after paid held (amount_of feed move.product) (place_charge feed (place_taken move)) (leg_floor feed rider)
-    (change_floor feed rider) (least_below (is_for_legs feed rider) feed.products)
-    (least_below (is_for_changes feed rider) feed.products) (leg_above feed rider leg (leg_taken move) m.paid_leg)
-    (change_above feed rider (asked_after state m.next) (place_taken move) m.right_place)
+low_price feed buyer state paid held leg move is none =
+    let m = next_tells feed buyer state held leg move is in
+    subst (λ (q : Move). (paid +ℤ held +ℤ fare_floor feed buyer) ≤ℤ (paid +ℤ q.paid.0 +ℤ q.held.0)) m.follows
+    (price_after paid held (amount_of feed move.product) (place_charge feed (place_taken move)) (leg_floor feed buyer)
+    (change_floor feed buyer) (least_below (is_for_legs feed buyer) feed.products)
+    (least_below (is_for_changes feed buyer) feed.products) (leg_above feed buyer leg (leg_taken move) m.paid_leg)
+    (change_above feed buyer (asked_after state m.next) (place_taken move) m.right_place)
     (place_kind feed (place_taken move)) none)
 
 -- the floor is at most 0
-pub floor_below : (feed : FeedRows) (rider : Option RiderId) → fare_floor feed rider ≤ℤ pos 0
+pub floor_below : (feed : FeedRows) (buyer : Buyer) → fare_floor feed buyer ≤ℤ pos 0
 unfolding fare_floor
-floor_below feed rider =
-    by (leg_floor feed rider) (change_floor feed rider) (least_below (is_for_legs feed rider) feed.products)
-    (least_below (is_for_changes feed rider) feed.products)
+floor_below feed buyer =
+    by (leg_floor feed buyer) (change_floor feed buyer) (least_below (is_for_legs feed buyer) feed.products)
+    (least_below (is_for_changes feed buyer) feed.products)
   where
     by : (x y : ℤ) → x ≤ℤ pos 0 → y ≤ℤ pos 0 → (x +ℤ y) ≤ℤ pos 0
     by x y p q = omega (arith, ints, p, q)

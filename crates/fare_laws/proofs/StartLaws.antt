@@ -4,7 +4,7 @@ use Rattle.std.specs.Prelude.{Option, Some, None, is_none, ℤ, pos, ◌+ℤ◌,
 use Rattle.std.specs.Option.{is_some}
 use Rattle.std.proofs.lemmas.Int.{ints}
 use Rattle.std.proofs.lemmas.Option.{same_Some}
-use Rattle.transit_base.specs.declared.numbers.RiderId.{RiderId}
+use Rattle.feed_rows.specs.declared.journeys.Buyer.{Buyer}
 use Rattle.feed_rows.specs.declared.fares.ChangeChoice.{ChangeChoice}
 use Rattle.feed_rows.specs.declared.fares.Choice.{Choice}
 use Rattle.feed_rows.specs.declared.fares.LegChoice.{LegChoice}
@@ -25,17 +25,17 @@ use Rattle.fare_laws.proofs.ExtensionLaws.{fare_state-told, held_amount-stand, p
 use Rattle.fare_laws.proofs.MoveLaws.{first_when, IsFirst, first_tells, first_is_bare}
 
 -- a choice for no leg is empty
-pub none_paid : (feed : FeedRows) (rider : Option RiderId) (choice : Choice) → is_fare_choice feed [] choice rider ≡ true →
+pub none_paid : (feed : FeedRows) (buyer : Buyer) (choice : Choice) → is_fare_choice feed [] choice buyer ≡ true →
     choice ≡ record { legs = []; changes = [] }
-none_paid feed rider choice pays =
-    let p = places_of_paid feed rider [] choice pays in
+none_paid feed buyer choice pays =
+    let p = places_of_paid feed buyer [] choice pays in
     same_choice choice (record { legs = []; changes = [] }) (no_items choice.legs p.0) (no_items choice.changes p.1)
   where
     no_items : {X : Type 0} (xs : List X) → length xs ≡ 0 → xs ≡ []
     no_items [] e = refl
     no_items (x ∷ xs) e = absurd (omega (arith, e))
 
-module _ (feed : FeedRows) (rider : Option RiderId) (leg : LegFacts) where
+module _ (feed : FeedRows) (buyer : Buyer) (leg : LegFacts) where
   abbrev none : Choice
   none = record { legs = []; changes = [] }
 
@@ -53,26 +53,26 @@ module _ (feed : FeedRows) (rider : Option RiderId) (leg : LegFacts) where
       by (Some pick) e = absurd (let no : false ≡ true = e in cc)
 
   -- where fares stand after it
-  stands : (move : Move) (m : IsFirst feed rider leg move) →
-      first_fare_stand feed rider leg (leg_taken move) ≡ Some (stand_of_first feed m.first (leg_taken move))
+  stands : (move : Move) (m : IsFirst feed buyer leg move) →
+      first_fare_stand feed buyer leg (leg_taken move) ≡ Some (stand_of_first feed m.first (leg_taken move))
   unfolding first_fare_stand
   stands move m =
       let chosen = m.chosen in
       let paid_leg = m.paid_leg in
       rw (chosen, paid_leg) refl
 
-  pub first_extends : (move : Move) → move_of_first feed rider leg move ≡ Some move → Extends feed rider [] none leg move
+  pub first_extends : (move : Move) → move_of_first feed buyer leg move ≡ Some move → Extends feed buyer [] none leg move
   unfolding starts_chain
   first_extends move is =
-      let m = first_tells feed rider leg move is in
+      let m = first_tells feed buyer leg move is in
       let after = stand_of_first feed m.first (leg_taken move) in
-      let at = first_fare_stand-of feed rider leg (leg_taken move) after (stands move m) in
+      let at = first_fare_stand-of feed buyer leg (leg_taken move) after (stands move m) in
       let same = one_extended move m.no_change in
       record {
         whole = m.whole;
         pays =
-            ap (λ (c : Choice). is_fare_choice feed (leg ∷ []) c rider) same
-            ∙ first_fare_stand-paid feed rider leg (leg_taken move) ∙ ap is_some (stands move m);
+            ap (λ (c : Choice). is_fare_choice feed (leg ∷ []) c buyer) same
+            ∙ first_fare_stand-paid feed buyer leg (leg_taken move) ∙ ap is_some (stands move m);
         paid =
             ap (paid_amount feed) same
             ∙ paid_amount-stand feed (leg ∷ []) (choice_of_one (leg_taken move)) 0 after refl refl at
@@ -92,31 +92,31 @@ module _ (feed : FeedRows) (rider : Option RiderId) (leg : LegFacts) where
       zero_both p e = omega (arith, ints, e)
 
   -- each choice of one leg is made by a move that there is
-  pub first_all : (longer : Choice) → is_fare_choice feed (leg ∷ []) longer rider ≡ true →
-      (move : Move) × (move_of_first feed rider leg move ≡ Some move) × (longer ≡ extended none move)
+  pub first_all : (longer : Choice) → is_fare_choice feed (leg ∷ []) longer buyer ≡ true →
+      (move : Move) × (move_of_first feed buyer leg move ≡ Some move) × (longer ≡ extended none move)
   unfolding first_fare_stand
   first_all longer pays =
-      let one = one_of_paid feed rider leg longer pays in
-      let some : is_some (first_fare_stand feed rider leg one.0) ≡ true =
-      sym (first_fare_stand-paid feed rider leg one.0) ∙ subst (λ (c : Choice). is_fare_choice feed (leg ∷ []) c rider ≡ true) one.1 pays in
-      by one.0 one.1 (chosen_leg feed leg one.0) refl (is_leg_choice feed rider leg one.0) refl some
+      let one = one_of_paid feed buyer leg longer pays in
+      let some : is_some (first_fare_stand feed buyer leg one.0) ≡ true =
+      sym (first_fare_stand-paid feed buyer leg one.0) ∙ subst (λ (c : Choice). is_fare_choice feed (leg ∷ []) c buyer ≡ true) one.1 pays in
+      by one.0 one.1 (chosen_leg feed leg one.0) refl (is_leg_choice feed buyer leg one.0) refl some
     where
-      by : (pick : LegChoice) → longer ≡ choice_of_one pick → (o : Option FareLeg) → chosen_leg feed leg pick ≡ o → (b : Bool) → is_leg_choice feed rider leg pick ≡ b →
-          is_some (option_and_then (λ first. when (is_leg_choice feed rider leg pick) (stand_of_first feed first pick)) (chosen_leg feed leg pick)) ≡ true →
-          (move : Move) × (move_of_first feed rider leg move ≡ Some move) × (longer ≡ extended none move)
+      by : (pick : LegChoice) → longer ≡ choice_of_one pick → (o : Option FareLeg) → chosen_leg feed leg pick ≡ o → (b : Bool) → is_leg_choice feed buyer leg pick ≡ b →
+          is_some (option_and_then (λ first. when (is_leg_choice feed buyer leg pick) (stand_of_first feed first pick)) (chosen_leg feed leg pick)) ≡ true →
+          (move : Move) × (move_of_first feed buyer leg move ≡ Some move) × (longer ≡ extended none move)
       by pick same None chosen b paid some = absurd (let no : false ≡ true = rw chosen at some in cc)
       by pick same (Some first) chosen false paid some = absurd (let no : false ≡ true = rw (chosen, paid) at some in cc)
       by pick same (Some first) chosen true paid some = (
         first_move feed first (bare pick None),
-        sym (first_when feed rider leg (first_move feed first (bare pick None)) first true chosen (rw paid refl)),
+        sym (first_when feed buyer leg (first_move feed first (bare pick None)) first true chosen (rw paid refl)),
         same,
       )
 
-  first_once : (a b : Move) → move_of_first feed rider leg a ≡ Some a → move_of_first feed rider leg b ≡ Some b →
+  first_once : (a b : Move) → move_of_first feed buyer leg a ≡ Some a → move_of_first feed buyer leg b ≡ Some b →
       extended none a ≡ extended none b → a ≡ b
   first_once a b is is' same =
-      let m = first_tells feed rider leg a is in
-      let m' = first_tells feed rider leg b is' in
+      let m = first_tells feed buyer leg a is in
+      let m' = first_tells feed buyer leg b is' in
       let pick = same_head (leg_taken a) (leg_taken b) (ap (λ (c : Choice). c.legs) same) in
       let first : m.first ≡ m'.first = same_Some m.first m'.first (sym m.chosen ∙ ap (chosen_leg feed leg) pick ∙ m'.chosen) in
       sym m.follows ∙ first_is_bare feed m.first a m.no_change m.whole
@@ -125,9 +125,9 @@ module _ (feed : FeedRows) (rider : Option RiderId) (leg : LegFacts) where
       ∙ sym (first_is_bare feed m'.first b m'.no_change m'.whole) ∙ m'.follows
 
   -- the moves of a first leg are exactly those that extend the choice for no leg
-  pub start_extends : (choice : Choice) (moves : List Move) → is_fare_choice feed [] choice rider ≡ true →
-      AreMovesAfter feed rider None (pos 0) leg moves → AreExtensions feed rider [] choice leg moves
-  start_extends choice moves pays are = subst (λ (c : Choice). AreExtensions feed rider [] c leg moves) (sym (none_paid feed rider choice pays)) (record {
+  pub start_extends : (choice : Choice) (moves : List Move) → is_fare_choice feed [] choice buyer ≡ true →
+      AreMovesAfter feed buyer None (pos 0) leg moves → AreExtensions feed buyer [] choice leg moves
+  start_extends choice moves pays are = subst (λ (c : Choice). AreExtensions feed buyer [] c leg moves) (sym (none_paid feed buyer choice pays)) (record {
     right = λ k d lt. first_extends (slice_index_or moves k d) (are.right k d lt);
     all = λ longer paid begins.
         let found = first_all longer paid in

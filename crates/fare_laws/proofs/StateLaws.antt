@@ -15,9 +15,8 @@ use Rattle.feed_rows.specs.declared.rows.TransferRuleRow.{TransferRuleRow}
 use Rattle.feed_rows.specs.declared.states.FareState.{FareState}
 use Rattle.feed_rows.specs.FeedRows.{FeedRows}
 use Rattle.feed_rows.specs.TransferRules.{FareLeg, AskedChange, asked_change, group_matches, limit_holds, is_candidate, suffices, count_le, is_least_count, is_selected}
-use Rattle.feed_rows.specs.FareStands.{Run, change_to}
 use Rattle.feed_rows.specs.FareStates.{is_within, count_within, greatest_count, counts_from_departure, counts_from_arrival, is_clock_read, state_of_run}
-use Rattle.feed_rows.specs.FareSteps.{asked_after}
+use Rattle.feed_rows.specs.FareSteps.{Run, change_to, asked_after}
 use Rattle.plain_laws.specs.Plain.{empty_or, filled_and, when}
 use Rattle.plain_laws.proofs.Laws.{list_any-place}
 

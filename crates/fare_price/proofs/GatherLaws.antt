@@ -1,39 +1,12 @@
 -- What is kept of offers that are made one after another.
-use Rattle.std.proofs.Common.{◌≡◌, subst, append_assoc, sym, ◌∙◌, ap, ℕ, ◌+◌, ◌<◌, ◌≤◌, ◌⊎◌, inl, inr, Bool, true, List, [], ◌∷◌, ◌++◌, length, get_or, take, take_all, map, Contains}
+use Rattle.std.proofs.Common.{◌≡◌, subst, append_assoc, sym, ◌∙◌, ap, ℕ, ◌+◌, ◌<◌, ◌≤◌, Bool, List, [], ◌∷◌, ◌++◌, length, get_or, take, take_all, map}
 use Rattle.std.specs.Prelude.{Some, slice_get, Result, Ok, Err, OnOk}
 use Rattle.std.proofs.lemmas.List.{take_more, map-append}
-use Rattle.std.proofs.lemmas.List.Elements.{All-weaker, All-append, All-contains, All-contains_itself, All-nil, Contains-append_left, Contains-append_right}
 use Rattle.std.proofs.lemmas.Option.{slice_get_within, get_or_from_slice_get}
-use Rattle.label_bag.specs.Bags.{covers, Gathers}
+use Rattle.label_bag.specs.Bags.{Gathers}
+use Rattle.label_bag.proofs.BagLaws.{gathers-then}
 
 module _ {X : Type 0} (at_most : X → X → Bool) where
-  -- nothing offered
-  pub gathers_none : (xs : List X) → Gathers at_most xs [] xs
-  gathers_none xs = record {
-    still = λ x h. h;
-    each = All-nil (λ x. covers at_most xs x ≡ true);
-    from = All-weaker (Contains xs) (λ x. Contains xs x ⊎ Contains [] x) (λ x h. inl h) xs (All-contains_itself xs);
-  }
-
-  -- some, and then others
-  pub gathers_then : (old mid new first second : List X) → Gathers at_most old first mid →
-      Gathers at_most mid second new → Gathers at_most old (first ++ second) new
-  gathers_then old mid new first second before last = record {
-    still = λ x h. last.still x (before.still x h);
-    each = All-append (λ x. covers at_most new x ≡ true) first second
-        (All-weaker (λ x. covers at_most mid x ≡ true) (λ x. covers at_most new x ≡ true) last.still first before.each)
-        last.each;
-    from = λ k d lt. by (get_or new k d) (last.from k d lt);
-  }
-    where
-      back : (x : X) → Contains old x ⊎ Contains first x → Contains old x ⊎ Contains (first ++ second) x
-      back x (inl was) = inl was
-      back x (inr one) = inr (Contains-append_left first second x one)
-
-      by : (x : X) → Contains mid x ⊎ Contains second x → Contains old x ⊎ Contains (first ++ second) x
-      by x (inl was) = back x (All-contains (λ x. Contains old x ⊎ Contains first x) mid x before.from was)
-      by x (inr one) = inr (Contains-append_right first second x one)
-
   -- the offer of one item more
   pub gathers_map : {Y : Type 0} (f : Y → X) (ys : List Y) (i : ℕ) (d : Y) (old mid new : List X) → i < length ys →
       Gathers at_most old (map f (take i ys)) mid → Gathers at_most mid (f (get_or ys i d) ∷ []) new →
@@ -41,7 +14,7 @@ module _ {X : Type 0} (at_most : X → X → Bool) where
   gathers_map f ys i d old mid new lt before last =
       subst (λ xs. Gathers at_most old xs new)
       (sym (ap (map f) (take_more ys i d lt) ∙ map-append f (take i ys) (get_or ys i d ∷ [])))
-      (gathers_then old mid new (map f (take i ys)) (f (get_or ys i d) ∷ []) before last)
+      (gathers-then at_most old mid new (map f (take i ys)) (f (get_or ys i d) ∷ []) before last)
 
   -- the offers of all items
   pub gathers_map-all : {Y : Type 0} (f : Y → X) (ys : List Y) (i : ℕ) (old new : List X) → length ys ≤ i →

@@ -6,7 +6,8 @@ use Rattle.std.proofs.lemmas.Int.{ints}
 use Rattle.std.proofs.lemmas.Option.{same_Some, slice_get_within, cond_some}
 use Rattle.std.proofs.lemmas.List.Elements.{All-contains}
 use Rattle.transit_base.specs.declared.numbers.ProductRowId.{ProductRowId}
-use Rattle.transit_base.specs.declared.numbers.RiderId.{RiderId}
+use Rattle.transit_base.specs.declared.moments.Money.{Money}
+use Rattle.feed_rows.specs.declared.journeys.Buyer.{Buyer}
 use Rattle.feed_rows.specs.declared.fares.ChangeChoice.{ChangeChoice}
 use Rattle.feed_rows.specs.declared.fares.Choice.{Choice}
 use Rattle.feed_rows.specs.declared.journeys.LegFacts.{LegFacts}
@@ -17,17 +18,15 @@ use Rattle.feed_rows.specs.FeedRows.{FeedRows}
 use Rattle.feed_rows.specs.SoundFeed.{IsSoundFeed}
 use Rattle.feed_rows.specs.FareChoices.{chosen_leg, is_fare_choice}
 use Rattle.feed_rows.specs.FareExtensions.{extended, Extends}
-use Rattle.feed_rows.specs.FareStands.{next_paid, place_kind, place_charge, frees_first, frees_next}
+use Rattle.feed_rows.specs.FareSteps.{place_kind, place_charge, frees_first, frees_next, leg_taken, place_taken, move_of_first, move_of_next, move_after}
 use Rattle.feed_rows.specs.FareStates.{held_amount, paid_amount, fare_state}
-use Rattle.feed_rows.specs.FareSteps.{leg_taken, place_taken, next_move, move_of_first, move_of_next, move_after}
 use Rattle.feed_rows.specs.FareSums.{amount_of, fare_sum}
 use Rattle.feed_rows.specs.LeastPrices.{IsLeastPriceOfLegs, AreUncoveredLegs}
 use Rattle.plain_laws.specs.Plain.{when}
 use Rattle.plain_laws.proofs.Laws.{All-slice_get, chain_gives, slice_get-append_left, Contains-slice_get, slice_get-Contains, Contains-map, map-tells, list_any_tells, list_any-place, All-from}
-use Rattle.feed_laws.proofs.StandLaws.{places_of_paid, next_paid-covers}
-use Rattle.fare_laws.proofs.ExtensionLaws.{next_paid-from, all_true}
+use Rattle.feed_laws.proofs.StandLaws.{places_of_paid}
 use Rattle.fare_laws.proofs.LongerLaws.{IsMoveAfter, extends_by, made_by}
-use Rattle.fare_laws.proofs.MoveLaws.{next_tells, next_when}
+use Rattle.fare_laws.proofs.LeadLaws.{leads_too}
 use Rattle.fare_laws.proofs.StartLaws.{none_paid as no_leg_paid}
 use Rattle.label_bag.specs.Bags.{covers, Gathers}
 use Rattle.fare_automaton.specs.Fewest.{AreEnoughMoves}
@@ -91,17 +90,17 @@ held_small true amount low = low
 held_small false amount low = omega arith
 
 -- a move that there is adds no more than one leg can cost
-pub move_small : (feed : FeedRows) (rider : Option RiderId) (state : Option FareState) (held : ℤ) (leg : LegFacts) (move : Move) →
-    IsSoundFeed feed → nat_abs held ≤ 10 ^ 12 → move_after feed rider state held leg move ≡ Some move → IsSmall move
+pub move_small : (feed : FeedRows) (buyer : Buyer) (state : Option FareState) (held : ℤ) (leg : LegFacts) (move : Move) →
+    IsSoundFeed feed → nat_abs held ≤ 10 ^ 12 → move_after feed buyer state held leg move ≡ Some move → IsSmall move
 unfolding move_of_first move_of_next
-move_small feed rider None held leg move sound low is =
+move_small feed buyer None held leg move sound low is =
     let first = chain_gives _ (chosen_leg feed leg (leg_taken move)) move is in
     let made = (cond_some _ _ _ first.gives).1 in
     record {
       paid = subst (λ (m : Move). nat_abs m.paid.0 ≤ 3 * 10 ^ 12) made (omega arith);
       held = subst (λ (m : Move). nat_abs m.held.0 ≤ 10 ^ 12) made (low_amount feed sound move.product);
     }
-move_small feed rider (Some state) held leg move sound low is =
+move_small feed buyer (Some state) held leg move sound low is =
     let next = chain_gives _ (chosen_leg feed leg (leg_taken move)) move is in
     let made = (cond_some _ _ _ next.gives).1 in
     let kind = place_kind feed (place_taken move) in
@@ -113,54 +112,20 @@ move_small feed rider (Some state) held leg move sound low is =
           (held_small (is_none kind) (amount_of feed move.product) (low_amount feed sound move.product));
     }
 
-pub moves_small : (feed : FeedRows) (rider : Option RiderId) (state : Option FareState) (held : ℤ) (leg : LegFacts) (moves : List Move) →
-    IsSoundFeed feed → nat_abs held ≤ 10 ^ 12 → AreEnoughMoves feed rider state held leg moves → All IsSmall moves
-moves_small feed rider state held leg moves sound low enough =
+pub moves_small : (feed : FeedRows) (buyer : Buyer) (state : Option FareState) (held : ℤ) (leg : LegFacts) (moves : List Move) →
+    IsSoundFeed feed → nat_abs held ≤ 10 ^ 12 → AreEnoughMoves feed buyer state held leg moves → All IsSmall moves
+moves_small feed buyer state held leg moves sound low enough =
     All-from IsSmall moves (λ move at.
-    move_small feed rider state held leg move sound low
-    (All-contains (λ m. move_after feed rider state held leg m ≡ Some m) moves move enough.right at))
-
--- a move that leads on from less that was paid, and from no greater price, to the same state
-record LeadsToo (feed : FeedRows) (rider : Option RiderId) (state : FareState) (paid held paid' : ℤ)
-    (leg : LegFacts) (move' : Move) : Type 0 where
-  pub move : Move
-  pub is : move_after feed rider (Some state) held leg move ≡ Some move
-  pub state_is : move.state ≡ move'.state
-  pub held_is : move.held.0 ≡ move'.held.0
-  pub paid_less : (paid +ℤ move.paid.0) ≤ℤ (paid' +ℤ move'.paid.0)
-
-less_by_parts : (x x' p p' q q' : ℤ) → x ≡ p +ℤ q → x' ≡ p' +ℤ q' → x ≤ℤ x' → (p +ℤ q) ≤ℤ (p' +ℤ q')
-less_by_parts x x' p p' q q' e e' le = omega (arith, ints, e, e', le)
-
-leads_too : (feed : FeedRows) (rider : Option RiderId) (state : FareState) (paid held paid' held' : ℤ)
-    (leg : LegFacts) (move' : Move) → paid ≤ℤ paid' → (paid +ℤ held) ≤ℤ (paid' +ℤ held') →
-    move_after feed rider (Some state) held' leg move' ≡ Some move' → LeadsToo feed rider state paid held paid' leg move'
-leads_too feed rider state paid held paid' held' leg move' le le' is =
-    let m = next_tells feed rider state held' leg move' is in
-    let kind = place_kind feed (place_taken move') in
-    let amount = amount_of feed move'.product in
-    let charge = place_charge feed (place_taken move') in
-    record {
-      move = next_move feed state held m.next move';
-      is =
-          sym (next_when feed rider leg (next_move feed state held m.next move') state held m.next true m.chosen
-          (all_true _ _ _ m.paid_leg m.right_place m.whole));
-      state_is = ap (λ (q : Move). q.state) m.follows;
-      held_is = ap (λ (q : Move). q.held.0) m.follows;
-      paid_less =
-          less_by_parts _ _ paid paid' (next_paid (pos 0) held kind amount charge) move'.paid.0
-          (next_paid-from paid held amount charge kind)
-          (next_paid-from paid' held' amount charge kind ∙ ap (λ (q : Move). paid' +ℤ q.paid.0) m.follows)
-          (next_paid-covers paid paid' held held' kind amount charge le le').0;
-    }
+    move_small feed buyer state held leg move sound low
+    (All-contains (λ m. move_after feed buyer state held leg m ≡ Some m) moves move enough.right at))
 
 -- ---- ways that are added
 
 -- enough moves that were offered add the ways by all moves
-pub adds_by_moves : (feed : FeedRows) (rider : Option RiderId) (leg : LegFacts) (state : Option FareState) (held paid : ℤ)
-    (number : ℕ) (moves : List Move) (old new : List Way) → AreEnoughMoves feed rider state held leg moves →
-    Gathers is_as_good old (map (way_by paid number) moves) new → AddsWays feed rider leg state held paid number old new
-adds_by_moves feed rider leg state held paid number moves old new enough gathers = record {
+pub adds_by_moves : (feed : FeedRows) (buyer : Buyer) (leg : LegFacts) (state : Option FareState) (held paid : ℤ)
+    (number : ℕ) (moves : List Move) (old new : List Way) → AreEnoughMoves feed buyer state held leg moves →
+    Gathers is_as_good old (map (way_by paid number) moves) new → AddsWays feed buyer leg state held paid number old new
+adds_by_moves feed buyer leg state held paid number moves old new enough gathers = record {
   still = gathers.still;
   each = λ move is.
       let lesser = enough.enough move is in
@@ -181,17 +146,17 @@ adds_by_moves feed rider leg state held paid number moves old new enough gathers
     added_both : (p x h y k : ℤ) → (x +ℤ h) ≤ℤ (y +ℤ k) → ((p +ℤ x) +ℤ h) ≤ℤ ((p +ℤ y) +ℤ k)
     added_both p x h y k le = omega (arith, ints, le)
 
-    made : (way : Way) → Contains (map (way_by paid number) moves) way → IsMadeAfter feed rider leg state held paid number way
+    made : (way : Way) → Contains (map (way_by paid number) moves) way → IsMadeAfter feed buyer leg state held paid number way
     made way at =
         let found = map-tells (way_by paid number) moves way at in
-        subst (IsMadeAfter feed rider leg state held paid number) found.2
+        subst (IsMadeAfter feed buyer leg state held paid number) found.2
         (record {
-          is = All-contains (λ m. move_after feed rider state held leg m ≡ Some m) moves found.0 enough.right found.1;
+          is = All-contains (λ m. move_after feed buyer state held leg m ≡ Some m) moves found.0 enough.right found.1;
           same = refl;
         })
 
     by : (way : Way) → Contains old way ⊎ Contains (map (way_by paid number) moves) way →
-        Contains old way ⊎ IsMadeAfter feed rider leg state held paid number way
+        Contains old way ⊎ IsMadeAfter feed buyer leg state held paid number way
     by way (inl was) = inl was
     by way (inr one) = inr (made way one)
 
@@ -199,21 +164,21 @@ no_member : {A : Type 0} (way : Way) → Contains [] way → A
 no_member way none = let lt = none.1 in absurd (omega arith)
 
 -- after no way
-pub next_none : (feed : FeedRows) (rider : Option RiderId) (leg : LegFacts) (base : ℕ) (ways new : List Way) → new ≡ [] →
-    AreNextWays feed rider leg base ways 0 new
-next_none feed rider leg base ways new none =
-    subst (AreNextWays feed rider leg base ways 0) (sym none)
+pub next_none : (feed : FeedRows) (buyer : Buyer) (leg : LegFacts) (base : ℕ) (ways new : List Way) → new ≡ [] →
+    AreNextWays feed buyer leg base ways 0 new
+next_none feed buyer leg base ways new none =
+    subst (AreNextWays feed buyer leg base ways 0) (sym none)
     (record {
       each = λ place last move lt at is. absurd (omega (arith, lt));
       from = λ way at. no_member way at;
     })
 
 -- after one way more
-pub next_more : (feed : FeedRows) (rider : Option RiderId) (leg : LegFacts) (base : ℕ) (ways : List Way) (n : ℕ) (last : Way)
-    (old new : List Way) → slice_get ways n ≡ Some last → AreNextWays feed rider leg base ways n old →
-    AddsWays feed rider leg (Some last.step.state) last.step.held.0 last.paid.0 (base + n) old new →
-    AreNextWays feed rider leg base ways (n + 1) new
-next_more feed rider leg base ways n last old new at before adds = record {
+pub next_more : (feed : FeedRows) (buyer : Buyer) (leg : LegFacts) (base : ℕ) (ways : List Way) (n : ℕ) (last : Way)
+    (old new : List Way) → slice_get ways n ≡ Some last → AreNextWays feed buyer leg base ways n old →
+    AddsWays feed buyer leg (Some last.step.state) last.step.held.0 last.paid.0 (base + n) old new →
+    AreNextWays feed buyer leg base ways (n + 1) new
+next_more feed buyer leg base ways n last old new at before adds = record {
   each = λ place own move lt is moves. each place own move lt is moves (cases place lt);
   from = λ way is_in. by way (adds.from way is_in);
 }
@@ -227,7 +192,7 @@ next_more feed rider leg base ways n last old new at before adds = record {
         omega_split (suc p) (suc m) lt = ⊎_elim (λ (l : p < m). inl (omega (arith, l))) (λ (e : p ≡ m). inr (ap suc e)) (omega_split p m (omega (arith, lt)))
 
     each : (place : ℕ) (own : Way) (move : Move) → place < n + 1 → slice_get ways place ≡ Some own
-        → move_after feed rider (Some own.step.state) own.step.held.0 leg move ≡ Some move
+        → move_after feed buyer (Some own.step.state) own.step.held.0 leg move ≡ Some move
         → (place < n) ⊎ (place ≡ n)
         → covers is_as_good new (way_by own.paid.0 (base + place) move) ≡ true
     each place own move lt is moves (inl less) = adds.still _ (before.each place own move less is moves)
@@ -235,10 +200,10 @@ next_more feed rider leg base ways n last old new at before adds = record {
         let one : own ≡ last = same_Some own last (sym is ∙ ap (slice_get ways) same ∙ at) in
         subst (λ (p : ℕ). covers is_as_good new (way_by own.paid.0 (base + p) move) ≡ true) (sym same)
         (subst (λ (w : Way). covers is_as_good new (way_by w.paid.0 (base + n) move) ≡ true) (sym one)
-        (adds.each move (subst (λ (w : Way). move_after feed rider (Some w.step.state) w.step.held.0 leg move ≡ Some move) one moves)))
+        (adds.each move (subst (λ (w : Way). move_after feed buyer (Some w.step.state) w.step.held.0 leg move ≡ Some move) one moves)))
 
-    by : (way : Way) → Contains old way ⊎ IsMadeAfter feed rider leg (Some last.step.state) last.step.held.0 last.paid.0 (base + n) way →
-        IsAfterOne feed rider leg base ways way
+    by : (way : Way) → Contains old way ⊎ IsMadeAfter feed buyer leg (Some last.step.state) last.step.held.0 last.paid.0 (base + n) way →
+        IsAfterOne feed buyer leg base ways way
     by way (inl was) = before.from way was
     by way (inr made) = record { place = n; last = last; at = at; made = made }
 
@@ -275,10 +240,10 @@ choice_of-append steps more (suc n) way traced =
 
 -- ---- one leg more than a choice pays
 
-module _ (feed : FeedRows) (rider : Option RiderId) (legs : List LegFacts) (leg : LegFacts) where
+module _ (feed : FeedRows) (buyer : Buyer) (legs : List LegFacts) (leg : LegFacts) where
   -- what a way says of its choice, by the move that extends the choice before
   state_after : (choice : Choice) (paid : ℤ) (number : ℕ) (move : Move) → paid_amount feed choice ≡ paid →
-      Extends feed rider legs choice leg move → IsStateOf feed (legs ++ leg ∷ []) (extended choice move) (way_by paid number move)
+      Extends feed buyer legs choice leg move → IsStateOf feed (legs ++ leg ∷ []) (extended choice move) (way_by paid number move)
   state_after choice paid number move is extends = record {
     state = extends.state;
     paid = extends.paid ∙ ap (λ (z : ℤ). z +ℤ move.paid.0) is;
@@ -286,7 +251,7 @@ module _ (feed : FeedRows) (rider : Option RiderId) (legs : List LegFacts) (leg 
   }
 
   -- beside a longer choice stands what covers a way that leads to its state, and has paid no more
-  no_dearer_after : (choice : Choice) (paid : ℤ) (number : ℕ) (move move' : Move) (new : List Way) → Extends feed rider legs choice leg move' →
+  no_dearer_after : (choice : Choice) (paid : ℤ) (number : ℕ) (move move' : Move) (new : List Way) → Extends feed buyer legs choice leg move' →
       covers is_as_good new (way_by paid number move) ≡ true → move.state ≡ move'.state → move.held.0 ≡ move'.held.0 →
       (paid +ℤ move.paid.0) ≤ℤ (paid_amount feed choice +ℤ move'.paid.0) →
       HasNoDearer feed (legs ++ leg ∷ []) new (extended choice move')
@@ -308,9 +273,9 @@ module _ (feed : FeedRows) (rider : Option RiderId) (legs : List LegFacts) (leg 
 
 -- ---- the first leg
 
-module _ (feed : FeedRows) (rider : Option RiderId) (leg : LegFacts) (steps new : List Way) (sound : IsSoundFeed feed)
-    (first : AreFirstWays feed rider leg new) where
-  none_paid : is_fare_choice feed [] no_choice rider ≡ true
+module _ (feed : FeedRows) (buyer : Buyer) (leg : LegFacts) (steps new : List Way) (sound : IsSoundFeed feed)
+    (first : AreFirstWays feed buyer leg new) where
+  none_paid : is_fare_choice feed [] no_choice buyer ≡ true
   unfolding is_fare_choice
   none_paid = refl
 
@@ -318,44 +283,44 @@ module _ (feed : FeedRows) (rider : Option RiderId) (leg : LegFacts) (steps new 
   unfolding paid_amount held_amount fare_sum
   none_is_paid = refl
 
-  first_move_of : (move : Move) → move_after feed rider None (pos 0) leg move ≡ Some move → IsMoveAfter feed rider [] no_choice leg move
+  first_move_of : (move : Move) → move_after feed buyer None (pos 0) leg move ≡ Some move → IsMoveAfter feed buyer [] no_choice leg move
   unfolding fare_state held_amount
   first_move_of move is = is
 
-  first_real : (way : Way) → IsMadeAfter feed rider leg None (pos 0) (pos 0) 0 way → IsReal feed rider (leg ∷ []) steps 0 way
+  first_real : (way : Way) → IsMadeAfter feed buyer leg None (pos 0) (pos 0) 0 way → IsReal feed buyer (leg ∷ []) steps 0 way
   first_real way made =
-      let extends = extends_by feed rider [] no_choice leg way.step none_paid (first_move_of way.step made.is) in
-      let small = move_small feed rider None (pos 0) leg way.step sound (omega arith) made.is in
+      let extends = extends_by feed buyer [] no_choice leg way.step none_paid (first_move_of way.step made.is) in
+      let small = move_small feed buyer None (pos 0) leg way.step sound (omega arith) made.is in
       record {
         traced = tt;
         pays = extends.pays;
         of = subst (IsStateOf feed (leg ∷ []) (extended no_choice way.step)) made.same
-            (state_after feed rider [] leg no_choice (pos 0) 0 way.step none_is_paid extends);
+            (state_after feed buyer [] leg no_choice (pos 0) 0 way.step none_is_paid extends);
         bounded = subst (IsBounded 1) made.same (record { paid = alone way.step.paid.0 small.paid; held = small.held });
       }
     where
       alone : (p : ℤ) → nat_abs p ≤ 3 * 10 ^ 12 → nat_abs (pos 0 +ℤ p) ≤ 1 * (3 * 10 ^ 12)
       alone p le = omega (arith, ints, le)
 
-  first_complete : (longer : Choice) → is_fare_choice feed (leg ∷ []) longer rider ≡ true → HasNoDearer feed (leg ∷ []) new longer
+  first_complete : (longer : Choice) → is_fare_choice feed (leg ∷ []) longer buyer ≡ true → HasNoDearer feed (leg ∷ []) new longer
   unfolding fare_state held_amount
   first_complete longer pays =
-      let made = made_by feed rider [] leg longer pays in
+      let made = made_by feed buyer [] leg longer pays in
       let none = none_of made.choice made.pays in
-      let start : IsMoveAfter feed rider [] no_choice leg made.move =
-      subst (λ (c : Choice). IsMoveAfter feed rider [] c leg made.move) none made.is in
-      let extends = extends_by feed rider [] no_choice leg made.move none_paid start in
+      let start : IsMoveAfter feed buyer [] no_choice leg made.move =
+      subst (λ (c : Choice). IsMoveAfter feed buyer [] c leg made.move) none made.is in
+      let extends = extends_by feed buyer [] no_choice leg made.move none_paid start in
       subst (HasNoDearer feed (leg ∷ []) new) (ap (λ (c : Choice). extended c made.move) (sym none) ∙ sym made.same)
-      (no_dearer_after feed rider [] leg no_choice (pos 0) 0 made.move made.move new extends (first.each made.move start) refl refl
+      (no_dearer_after feed buyer [] leg no_choice (pos 0) 0 made.move made.move new extends (first.each made.move start) refl refl
       (same_paid _ _ none_is_paid))
     where
       same_paid : (p q : ℤ) → p ≡ pos 0 → (pos 0 +ℤ q) ≤ℤ (p +ℤ q)
       same_paid p q e = omega (arith, ints, e)
 
-      none_of : (choice : Choice) → is_fare_choice feed [] choice rider ≡ true → choice ≡ no_choice
-      none_of choice is = no_leg_paid feed rider choice is
+      none_of : (choice : Choice) → is_fare_choice feed [] choice buyer ≡ true → choice ≡ no_choice
+      none_of choice is = no_leg_paid feed buyer choice is
 
-  pub first_layer : AreWaysOf feed rider (leg ∷ []) steps 0 new
+  pub first_layer : AreWaysOf feed buyer (leg ∷ []) steps 0 new
   first_layer = record {
     real = λ way at. ⊎_elim (λ (none : Contains [] way). no_member way none) (first_real way) (first.from way at);
     complete = first_complete;
@@ -363,19 +328,19 @@ module _ (feed : FeedRows) (rider : Option RiderId) (leg : LegFacts) (steps new 
 
 -- ---- one leg more
 
-module _ (feed : FeedRows) (rider : Option RiderId) (legs : List LegFacts) (leg : LegFacts) (steps ways new : List Way) (n : ℕ)
-    (sound : IsSoundFeed feed) (before : AreWaysOf feed rider legs steps n ways)
-    (next : AreNextWays feed rider leg (length steps) ways (length ways) new) where
-  next_real : (way : Way) → IsAfterOne feed rider leg (length steps) ways way → IsReal feed rider (legs ++ leg ∷ []) (steps ++ ways) (suc n) way
+module _ (feed : FeedRows) (buyer : Buyer) (legs : List LegFacts) (leg : LegFacts) (steps ways new : List Way) (n : ℕ)
+    (sound : IsSoundFeed feed) (before : AreWaysOf feed buyer legs steps n ways)
+    (next : AreNextWays feed buyer leg (length steps) ways (length ways) new) where
+  next_real : (way : Way) → IsAfterOne feed buyer leg (length steps) ways way → IsReal feed buyer (legs ++ leg ∷ []) (steps ++ ways) (suc n) way
   next_real way after =
       let last = after.last in
       let real = before.real last (Contains-slice_get ways after.place last after.at) in
       let choice = choice_of steps n last in
-      let is : IsMoveAfter feed rider legs choice leg way.step =
-      subst (λ (s : Option FareState). move_after feed rider s (held_amount feed choice) leg way.step ≡ Some way.step) (sym real.of.state)
-      (subst (λ (h : ℤ). move_after feed rider (Some last.step.state) h leg way.step ≡ Some way.step) (sym real.of.held) after.made.is) in
-      let extends = extends_by feed rider legs choice leg way.step real.pays is in
-      let small = move_small feed rider (Some last.step.state) last.step.held.0 leg way.step sound real.bounded.held after.made.is in
+      let is : IsMoveAfter feed buyer legs choice leg way.step =
+      subst (λ (s : Option FareState). move_after feed buyer s (held_amount feed choice) leg way.step ≡ Some way.step) (sym real.of.state)
+      (subst (λ (h : ℤ). move_after feed buyer (Some last.step.state) h leg way.step ≡ Some way.step) (sym real.of.held) after.made.is) in
+      let extends = extends_by feed buyer legs choice leg way.step real.pays is in
+      let small = move_small feed buyer (Some last.step.state) last.step.held.0 leg way.step sound real.bounded.held after.made.is in
       let number : way.before ≡ length steps + after.place = sym (ap (λ (w : Way). w.before) after.made.same) in
       let there : slice_get (steps ++ ways) way.before ≡ Some last =
       ap (slice_get (steps ++ ways)) number ∙ slice_get-append_right steps ways after.place ∙ after.at in
@@ -383,10 +348,10 @@ module _ (feed : FeedRows) (rider : Option RiderId) (legs : List LegFacts) (leg 
       sym (choice_of-suc (steps ++ ways) n way last there ∙ ap (λ c. extended c way.step) (choice_of-append steps ways n last real.traced)) in
       record {
         traced = (last, there, IsTraced-append steps ways n last real.traced);
-        pays = subst (λ (c : Choice). is_fare_choice feed (legs ++ leg ∷ []) c rider ≡ true) same extends.pays;
+        pays = subst (λ (c : Choice). is_fare_choice feed (legs ++ leg ∷ []) c buyer ≡ true) same extends.pays;
         of = subst (λ (c : Choice). IsStateOf feed (legs ++ leg ∷ []) c way) same
             (subst (IsStateOf feed (legs ++ leg ∷ []) (extended choice way.step)) after.made.same
-            (state_after feed rider legs leg choice last.paid.0 (length steps + after.place) way.step real.of.paid extends));
+            (state_after feed buyer legs leg choice last.paid.0 (length steps + after.place) way.step real.of.paid extends));
         bounded = subst (IsBounded (suc n + 1)) after.made.same
             (record { paid = more last.paid.0 way.step.paid.0 real.bounded.paid small.paid; held = small.held });
       }
@@ -394,24 +359,24 @@ module _ (feed : FeedRows) (rider : Option RiderId) (legs : List LegFacts) (leg 
       more : (p q : ℤ) → nat_abs p ≤ (n + 1) * (3 * 10 ^ 12) → nat_abs q ≤ 3 * 10 ^ 12 → nat_abs (p +ℤ q) ≤ (suc n + 1) * (3 * 10 ^ 12)
       more p q le le' = omega (arith, ints, le, le')
 
-  next_complete : (longer : Choice) → is_fare_choice feed (legs ++ leg ∷ []) longer rider ≡ true →
+  next_complete : (longer : Choice) → is_fare_choice feed (legs ++ leg ∷ []) longer buyer ≡ true →
       HasNoDearer feed (legs ++ leg ∷ []) new longer
   next_complete longer pays =
-      let made = made_by feed rider legs leg longer pays in
+      let made = made_by feed buyer legs leg longer pays in
       let has = before.complete made.choice made.pays in
       let way = has.way in
       let at = slice_get-Contains ways way has.is_in in
-      let extends = extends_by feed rider legs made.choice leg made.move made.pays made.is in
-      let from_state : move_after feed rider (Some way.step.state) (held_amount feed made.choice) leg made.move ≡ Some made.move =
-      subst (λ (s : Option FareState). move_after feed rider s (held_amount feed made.choice) leg made.move ≡ Some made.move) has.state made.is in
+      let extends = extends_by feed buyer legs made.choice leg made.move made.pays made.is in
+      let from_state : move_after feed buyer (Some way.step.state) (held_amount feed made.choice) leg made.move ≡ Some made.move =
+      subst (λ (s : Option FareState). move_after feed buyer s (held_amount feed made.choice) leg made.move ≡ Some made.move) has.state made.is in
       let too =
-      leads_too feed rider way.step.state way.paid.0 way.step.held.0 (paid_amount feed made.choice) (held_amount feed made.choice) leg made.move
+      leads_too feed buyer (Some way.step.state) way.paid.0 way.step.held.0 (paid_amount feed made.choice) (held_amount feed made.choice) leg made.move
       has.paid has.cost from_state in
       subst (HasNoDearer feed (legs ++ leg ∷ []) new) (sym made.same)
-      (no_dearer_after feed rider legs leg made.choice way.paid.0 (length steps + at.0) too.move made.move new extends
-      (next.each at.0 way too.move (slice_get_within ways at.0 way at.1) at.1 too.is) too.state_is too.held_is too.paid_less)
+      (no_dearer_after feed buyer legs leg made.choice way.paid.0 (length steps + at.0) too.move made.move new extends
+      (next.each at.0 way too.move (slice_get_within ways at.0 way at.1) at.1 too.is) too.state_is (ap (λ (h : Money). h.0) too.held_is) too.paid_less)
 
-  pub next_layer : AreWaysOf feed rider (legs ++ leg ∷ []) (steps ++ ways) (suc n) new
+  pub next_layer : AreWaysOf feed buyer (legs ++ leg ∷ []) (steps ++ ways) (suc n) new
   next_layer = record {
     real = λ way at. next_real way (next.from way at);
     complete = next_complete;
@@ -419,8 +384,8 @@ module _ (feed : FeedRows) (rider : Option RiderId) (legs : List LegFacts) (leg 
 
 -- ---- the least price
 
-module _ (feed : FeedRows) (rider : Option RiderId) (legs : List LegFacts) (steps ways : List Way) (n : ℕ)
-    (are : AreWaysOf feed rider legs steps n ways) where
+module _ (feed : FeedRows) (buyer : Buyer) (legs : List LegFacts) (steps ways : List Way) (n : ℕ)
+    (are : AreWaysOf feed buyer legs steps n ways) where
   -- what is paid and what is held are the sum
   both_parts : (choice : Choice) → (paid_amount feed choice +ℤ held_amount feed choice) ≡ fare_sum feed choice
   unfolding paid_amount
@@ -428,14 +393,14 @@ module _ (feed : FeedRows) (rider : Option RiderId) (legs : List LegFacts) (step
 
   -- the cheapest of the ways has the least price
   pub least_way : (way : Way) → Contains ways way → All (λ (w : Way). cost way ≤ℤ cost w) ways →
-      IsLeastPriceOfLegs feed legs rider (choice_of steps n way) (cost way)
+      IsLeastPriceOfLegs feed legs buyer (choice_of steps n way) (cost way)
   least_way way at cheapest =
       let r = are.real way at in
       record {
         paid = ap (λ b. when b (fare_sum feed (choice_of steps n way))) r.pays
             ∙ ap Some (sym (both_parts (choice_of steps n way)) ∙ sum_of _ _ _ _ r.of.paid r.of.held);
         least = λ other sum is.
-            let parts = cond_some (is_fare_choice feed legs other rider) (fare_sum feed other) sum is in
+            let parts = cond_some (is_fare_choice feed legs other buyer) (fare_sum feed other) sum is in
             let has = are.complete other parts.0 in
             chain _ _ _ _ _ (All-contains (λ (w : Way). cost way ≤ℤ cost w) ways has.way cheapest has.is_in)
             has.cost (both_parts other) parts.1;
@@ -448,23 +413,23 @@ module _ (feed : FeedRows) (rider : Option RiderId) (legs : List LegFacts) (step
       chain a b c d e p q r s = omega (arith, ints, p, q, r, s)
 
   -- where there is no way no choice pays the legs
-  pub no_way : ways ≡ [] → AreUncoveredLegs feed legs rider
-  no_way none choice = by (is_fare_choice feed legs choice rider) refl
+  pub no_way : ways ≡ [] → AreUncoveredLegs feed legs buyer
+  no_way none choice = by (is_fare_choice feed legs choice buyer) refl
     where
-      by : (b : Bool) → is_fare_choice feed legs choice rider ≡ b → when b (fare_sum feed choice) ≡ None
+      by : (b : Bool) → is_fare_choice feed legs choice buyer ≡ b → when b (fare_sum feed choice) ≡ None
       by false is = refl
       by true is =
           let has = are.complete choice is in
           no_member has.way (subst (λ (ws : List Way). Contains ws has.way) none has.is_in)
 
 -- no legs cost nothing
-pub no_legs : (feed : FeedRows) (rider : Option RiderId) → IsLeastPriceOfLegs feed [] rider no_choice (pos 0)
+pub no_legs : (feed : FeedRows) (buyer : Buyer) → IsLeastPriceOfLegs feed [] buyer no_choice (pos 0)
 unfolding is_fare_choice fare_sum
-no_legs feed rider = record {
+no_legs feed buyer = record {
   paid = refl;
   least = λ other sum is.
-      let parts = cond_some (is_fare_choice feed [] other rider) (fare_sum feed other) sum is in
-      let places = places_of_paid feed rider [] other parts.0 in
+      let parts = cond_some (is_fare_choice feed [] other buyer) (fare_sum feed other) sum is in
+      let places = places_of_paid feed buyer [] other parts.0 in
       costs other sum places.0 places.1 parts.1;
 }
   where
@@ -477,31 +442,31 @@ no_legs feed rider = record {
 -- ---- the first legs
 
 -- the first layer, as the first of all legs
-pub first_layer-take : (feed : FeedRows) (rider : Option RiderId) (legs : List LegFacts) (leg : LegFacts) (steps : List Way)
-    (new : List Way) → IsSoundFeed feed → slice_get legs 0 ≡ Some leg → AreFirstWays feed rider leg new →
-    AreWaysOf feed rider (take 1 legs) steps 0 new
-first_layer-take feed rider [] leg steps new sound is first = absurd (cc)
-first_layer-take feed rider (x ∷ xs) leg steps new sound is first =
+pub first_layer-take : (feed : FeedRows) (buyer : Buyer) (legs : List LegFacts) (leg : LegFacts) (steps : List Way)
+    (new : List Way) → IsSoundFeed feed → slice_get legs 0 ≡ Some leg → AreFirstWays feed buyer leg new →
+    AreWaysOf feed buyer (take 1 legs) steps 0 new
+first_layer-take feed buyer [] leg steps new sound is first = absurd (cc)
+first_layer-take feed buyer (x ∷ xs) leg steps new sound is first =
     let same : leg ≡ x = same_Some _ _ (sym is) in
     let one : leg ∷ [] ≡ take 1 (x ∷ xs) = ap (λ (y : LegFacts). y ∷ []) same ∙ one_of x xs in
-    subst (λ (ls : List LegFacts). AreWaysOf feed rider ls steps 0 new) one (first_layer feed rider leg steps new sound first)
+    subst (λ (ls : List LegFacts). AreWaysOf feed buyer ls steps 0 new) one (first_layer feed buyer leg steps new sound first)
   where
     one_of : (y : LegFacts) (ys : List LegFacts) → y ∷ [] ≡ take 1 (y ∷ ys)
     one_of y ys = refl
 
 -- and one leg more of them
-pub next_layer-take : (feed : FeedRows) (rider : Option RiderId) (legs : List LegFacts) (leg : LegFacts)
+pub next_layer-take : (feed : FeedRows) (buyer : Buyer) (legs : List LegFacts) (leg : LegFacts)
     (steps ways : List Way) (n : ℕ) (new more : List Way) → IsSoundFeed feed → slice_get legs (n + 1) ≡ Some leg →
-    AreWaysOf feed rider (take (n + 1) legs) steps n ways →
-    AreNextWays feed rider leg (length steps) ways (length ways) new → more ≡ steps ++ ways →
-    AreWaysOf feed rider (take ((n + 1) + 1) legs) more (n + 1) new
-next_layer-take feed rider legs leg steps ways n new more sound is before next kept =
-    let step = next_layer feed rider (take (n + 1) legs) leg steps ways new n sound before next in
+    AreWaysOf feed buyer (take (n + 1) legs) steps n ways →
+    AreNextWays feed buyer leg (length steps) ways (length ways) new → more ≡ steps ++ ways →
+    AreWaysOf feed buyer (take ((n + 1) + 1) legs) more (n + 1) new
+next_layer-take feed buyer legs leg steps ways n new more sound is before next kept =
+    let step = next_layer feed buyer (take (n + 1) legs) leg steps ways new n sound before next in
     let longer : take (n + 1) legs ++ leg ∷ [] ≡ take ((n + 1) + 1) legs = sym (take_next legs (n + 1) leg is) in
     let count : suc n ≡ n + 1 = omega arith in
-    subst (λ (ls : List LegFacts). AreWaysOf feed rider ls more (n + 1) new) longer
-    (subst (λ (ss : List Way). AreWaysOf feed rider (take (n + 1) legs ++ leg ∷ []) ss (n + 1) new) (sym kept)
-    (subst (λ (m : ℕ). AreWaysOf feed rider (take (n + 1) legs ++ leg ∷ []) (steps ++ ways) m new) count step))
+    subst (λ (ls : List LegFacts). AreWaysOf feed buyer ls more (n + 1) new) longer
+    (subst (λ (ss : List Way). AreWaysOf feed buyer (take (n + 1) legs ++ leg ∷ []) ss (n + 1) new) (sym kept)
+    (subst (λ (m : ℕ). AreWaysOf feed buyer (take (n + 1) legs ++ leg ∷ []) (steps ++ ways) m new) count step))
 
 -- what is bounded over n + 1 legs is bounded over more
 pub bounded_more : (m n : ℕ) (way : Way) → m ≤ n → IsBounded m way → IsBounded n way
@@ -510,9 +475,9 @@ bounded_more m n way le b = record { paid = more (nat_abs way.paid.0) b.paid; he
     more : (p : ℕ) → p ≤ m * (3 * 10 ^ 12) → p ≤ n * (3 * 10 ^ 12)
     more p at = omega (arith, at, le)
 
-pub ways_bounded : (feed : FeedRows) (rider : Option RiderId) (legs : List LegFacts) (steps ways : List Way) (n m : ℕ) →
-    AreWaysOf feed rider legs steps n ways → n + 1 ≤ m → All (IsBounded m) ways
-ways_bounded feed rider legs steps ways n m are le =
+pub ways_bounded : (feed : FeedRows) (buyer : Buyer) (legs : List LegFacts) (steps ways : List Way) (n m : ℕ) →
+    AreWaysOf feed buyer legs steps n ways → n + 1 ≤ m → All (IsBounded m) ways
+ways_bounded feed buyer legs steps ways n m are le =
     All-from (IsBounded m) ways (λ way at. bounded_more (n + 1) m way le (are.real way at).bounded)
 
 -- the steps to a way, where there is a change

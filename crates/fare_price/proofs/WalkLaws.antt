@@ -8,7 +8,7 @@ use Rattle.std.proofs.lemmas.Bool.Decides.{nat_tests}
 use Rattle.std.proofs.lemmas.Option.{slice_get_within, slice_get-get_or, cond_some}
 use Rattle.std.proofs.Math.Seq.{take-append_seam, drop-append_seam}
 use Rattle.std.proofs.Common.{drop, get_or}
-use Rattle.transit_base.specs.declared.numbers.RiderId.{RiderId}
+use Rattle.feed_rows.specs.declared.journeys.Buyer.{Buyer}
 use Rattle.feed_rows.specs.declared.fares.ChangeChoice.{ChangeChoice}
 use Rattle.feed_rows.specs.declared.fares.Choice.{Choice}
 use Rattle.feed_rows.specs.declared.fares.LegChoice.{LegChoice}
@@ -46,51 +46,51 @@ there_where c g (Some x) = by (c x)
     by true = refl
     by false = refl
 
-module _ (feed : FeedRows) (rider : Option RiderId) (leg : LegFacts) where
+module _ (feed : FeedRows) (buyer : Buyer) (leg : LegFacts) where
   first_test : LegChoice → Option ChangeChoice → Bool → Bool
-  first_test pick place whole = filled_and (chosen_leg feed leg pick) (λ first. is_leg_choice feed rider leg pick && is_none place && whole)
+  first_test pick place whole = filled_and (chosen_leg feed leg pick) (λ first. is_leg_choice feed buyer leg pick && is_none place && whole)
 
   next_test : FareState → LegChoice → Option ChangeChoice → Bool → Bool
   next_test state pick place whole =
-      filled_and (chosen_leg feed leg pick) (λ next. is_leg_choice feed rider leg pick && is_place_after feed rider (asked_after state next) place && whole)
+      filled_and (chosen_leg feed leg pick) (λ next. is_leg_choice feed buyer leg pick && is_place_after feed buyer (asked_after state next) place && whole)
 
   same_test : (state : Option FareState) (held : ℤ) (a b : Move) → leg_taken a ≡ leg_taken b → place_taken a ≡ place_taken b → is_whole a ≡ is_whole b →
-      is_some (move_after feed rider state held leg a) ≡ is_some (move_after feed rider state held leg b)
+      is_some (move_after feed buyer state held leg a) ≡ is_some (move_after feed buyer state held leg b)
   unfolding move_of_first move_of_next first_test next_test
   same_test None held a b picks places whole =
-      there_where (λ first. is_leg_choice feed rider leg (leg_taken a) && is_none (place_taken a) && is_whole a) (λ first. first_move feed first a)
+      there_where (λ first. is_leg_choice feed buyer leg (leg_taken a) && is_none (place_taken a) && is_whole a) (λ first. first_move feed first a)
       (chosen_leg feed leg (leg_taken a))
       ∙ ap (λ (p : LegChoice). first_test p (place_taken a) (is_whole a)) picks
       ∙ ap (λ (p : Option ChangeChoice). first_test (leg_taken b) p (is_whole a)) places
       ∙ ap (first_test (leg_taken b) (place_taken b)) whole
-      ∙ sym (there_where (λ first. is_leg_choice feed rider leg (leg_taken b) && is_none (place_taken b) && is_whole b) (λ first. first_move feed first b)
+      ∙ sym (there_where (λ first. is_leg_choice feed buyer leg (leg_taken b) && is_none (place_taken b) && is_whole b) (λ first. first_move feed first b)
       (chosen_leg feed leg (leg_taken b)))
   same_test (Some state) held a b picks places whole =
-      there_where (λ next. is_leg_choice feed rider leg (leg_taken a) && is_place_after feed rider (asked_after state next) (place_taken a) && is_whole a)
+      there_where (λ next. is_leg_choice feed buyer leg (leg_taken a) && is_place_after feed buyer (asked_after state next) (place_taken a) && is_whole a)
       (λ next. next_move feed state held next a) (chosen_leg feed leg (leg_taken a))
       ∙ ap (λ (p : LegChoice). next_test state p (place_taken a) (is_whole a)) picks
       ∙ ap (λ (p : Option ChangeChoice). next_test state (leg_taken b) p (is_whole a)) places
       ∙ ap (next_test state (leg_taken b) (place_taken b)) whole
-      ∙ sym (there_where (λ next. is_leg_choice feed rider leg (leg_taken b) && is_place_after feed rider (asked_after state next) (place_taken b) && is_whole b)
+      ∙ sym (there_where (λ next. is_leg_choice feed buyer leg (leg_taken b) && is_place_after feed buyer (asked_after state next) (place_taken b) && is_whole b)
       (λ next. next_move feed state held next b) (chosen_leg feed leg (leg_taken b)))
 
   -- what was applied takes the rows that it was applied to, and is applied to itself
   record IsApplied (state : Option FareState) (held : ℤ) (taken move : Move) : Type 0 where
     pub pick : leg_taken move ≡ leg_taken taken
     pub place : place_taken move ≡ place_taken taken
-    pub is : move_after feed rider state held leg move ≡ Some move
+    pub is : move_after feed buyer state held leg move ≡ Some move
 
   first_again : (first : FareLeg) (taken : Move) →
-      move_after feed rider None (pos 0) leg (first_move feed first taken) ≡ move_after feed rider None (pos 0) leg taken
+      move_after feed buyer None (pos 0) leg (first_move feed first taken) ≡ move_after feed buyer None (pos 0) leg taken
   unfolding move_of_first
   first_again first taken = refl
 
   next_again : (state : FareState) (held : ℤ) (next : FareLeg) (taken : Move) →
-      move_after feed rider (Some state) held leg (next_move feed state held next taken) ≡ move_after feed rider (Some state) held leg taken
+      move_after feed buyer (Some state) held leg (next_move feed state held next taken) ≡ move_after feed buyer (Some state) held leg taken
   unfolding move_of_next
   next_again state held next taken = refl
 
-  applied : (state : Option FareState) (held : ℤ) (taken move : Move) → move_after feed rider state held leg taken ≡ Some move →
+  applied : (state : Option FareState) (held : ℤ) (taken move : Move) → move_after feed buyer state held leg taken ≡ Some move →
       IsApplied state held taken move
   unfolding move_of_first move_of_next
   applied None held taken move is =
@@ -99,7 +99,7 @@ module _ (feed : FeedRows) (rider : Option RiderId) (leg : LegFacts) where
       record {
         pick = ap leg_taken (sym made);
         place = ap place_taken (sym made);
-        is = subst (λ (m : Move). move_after feed rider None held leg m ≡ Some move) made (first_again first.value taken ∙ is);
+        is = subst (λ (m : Move). move_after feed buyer None held leg m ≡ Some move) made (first_again first.value taken ∙ is);
       }
   applied (Some state) held taken move is =
       let next = chain_gives _ (chosen_leg feed leg (leg_taken taken)) move is in
@@ -107,7 +107,7 @@ module _ (feed : FeedRows) (rider : Option RiderId) (leg : LegFacts) where
       record {
         pick = ap leg_taken (sym made);
         place = ap place_taken (sym made);
-        is = subst (λ (m : Move). move_after feed rider (Some state) held leg m ≡ Some move) made (next_again state held next.value taken ∙ is);
+        is = subst (λ (m : Move). move_after feed buyer (Some state) held leg m ≡ Some move) made (next_again state held next.value taken ∙ is);
       }
 
 place_of_bare : (pick : LegChoice) (place : Option ChangeChoice) → place_taken (bare pick place) ≡ place
@@ -202,29 +202,29 @@ module _ (legs : List LegFacts) (choice : Choice) (places : length choice.legs �
 
   -- ---- the walk
 
-  module _ (feed : FeedRows) (rider : Option RiderId) where
-    made_front : (n : ℕ) (leg : LegFacts) → slice_get legs n ≡ Some leg → is_fare_choice feed (take (n + 1) legs) (front choice (n + 1)) rider ≡ true →
-        IsMadeBy feed rider (take n legs) leg (front choice (n + 1))
+  module _ (feed : FeedRows) (buyer : Buyer) where
+    made_front : (n : ℕ) (leg : LegFacts) → slice_get legs n ≡ Some leg → is_fare_choice feed (take (n + 1) legs) (front choice (n + 1)) buyer ≡ true →
+        IsMadeBy feed buyer (take n legs) leg (front choice (n + 1))
     made_front n leg at pays =
-        made_by feed rider (take n legs) leg (front choice (n + 1))
-        (subst (λ (ls : List LegFacts). is_fare_choice feed ls (front choice (n + 1)) rider ≡ true) (take_next legs n leg at) pays)
+        made_by feed buyer (take n legs) leg (front choice (n + 1))
+        (subst (λ (ls : List LegFacts). is_fare_choice feed ls (front choice (n + 1)) buyer ≡ true) (take_next legs n leg at) pays)
 
-    front_made : (n : ℕ) (leg : LegFacts) → slice_get legs n ≡ Some leg → (made : IsMadeBy feed rider (take n legs) leg (front choice (n + 1))) →
+    front_made : (n : ℕ) (leg : LegFacts) → slice_get legs n ≡ Some leg → (made : IsMadeBy feed buyer (take n legs) leg (front choice (n + 1))) →
         IsExtendedTo n made.choice made.move
     front_made n leg at made =
         let lt = slice_get_within legs n leg at in
-        let long = places_of_paid feed rider (take n legs) made.choice made.pays in
+        let long = places_of_paid feed buyer (take n legs) made.choice made.pays in
         let count : length (take n legs) ≡ n = length-take-le n legs (omega arith) in
         extended_to n made.choice made.move lt (long.0 ∙ count) (long.1 ∙ ap (λ (k : ℕ). k - 1) count) made.same
 
     -- a choice that pays all legs pays the first of them
-    front_pays : is_fare_choice feed legs choice rider ≡ true → (d n : ℕ) → n + d ≡ length legs →
-        is_fare_choice feed (take n legs) (front choice n) rider ≡ true
+    front_pays : is_fare_choice feed legs choice buyer ≡ true → (d n : ℕ) → n + d ≡ length legs →
+        is_fare_choice feed (take n legs) (front choice n) buyer ≡ true
     front_pays pays zero n sum =
         let all : n ≡ length legs = omega (arith, sum) in
-        subst (λ (k : ℕ). is_fare_choice feed (take k legs) (front choice k) rider ≡ true) (sym all)
-        (subst (λ (c : Choice). is_fare_choice feed (take (length legs) legs) c rider ≡ true) (sym front_all)
-        (subst (λ (ls : List LegFacts). is_fare_choice feed ls choice rider ≡ true) (sym (take_all (length legs) legs (omega arith))) pays))
+        subst (λ (k : ℕ). is_fare_choice feed (take k legs) (front choice k) buyer ≡ true) (sym all)
+        (subst (λ (c : Choice). is_fare_choice feed (take (length legs) legs) c buyer ≡ true) (sym front_all)
+        (subst (λ (ls : List LegFacts). is_fare_choice feed ls choice buyer ≡ true) (sym (take_all (length legs) legs (omega arith))) pays))
     front_pays pays (suc d) n sum = by (slice_get legs n) refl (front_pays pays d (n + 1) (omega (arith, sum)))
       where
         past : (ls : List LegFacts) (k : ℕ) → k < length ls → slice_get ls k ≡ None → ⊥
@@ -232,35 +232,35 @@ module _ (legs : List LegFacts) (choice : Choice) (places : length choice.legs �
         past (l ∷ ls) zero lt e = absurd (cc)
         past (l ∷ ls) (suc k) lt e = past ls k (omega (arith, lt)) e
 
-        by : (o : Option LegFacts) → slice_get legs n ≡ o → is_fare_choice feed (take (n + 1) legs) (front choice (n + 1)) rider ≡ true →
-            is_fare_choice feed (take n legs) (front choice n) rider ≡ true
+        by : (o : Option LegFacts) → slice_get legs n ≡ o → is_fare_choice feed (take (n + 1) legs) (front choice (n + 1)) buyer ≡ true →
+            is_fare_choice feed (take n legs) (front choice n) buyer ≡ true
         by None at more = absurd (past legs n (omega (arith, sum)) at)
         by (Some leg) at more =
             let made = made_front n leg at more in
-            subst (λ (c : Choice). is_fare_choice feed (take n legs) c rider ≡ true) (front_made n leg at made).same made.pays
+            subst (λ (c : Choice). is_fare_choice feed (take n legs) c buyer ≡ true) (front_made n leg at made).same made.pays
 
     -- before the first leg
-    pub walk_start : IsPaidUpTo feed rider legs choice 0 at_start
+    pub walk_start : IsPaidUpTo feed buyer legs choice 0 at_start
     unfolding is_fare_choice fare_state paid_amount held_amount fare_sum
     walk_start = record { pays = refl; state = refl; paid = refl; held = refl; bound = omega arith; low = omega arith }
 
     -- one leg more that is paid
     pub walk_next : (n : ℕ) (walked : Walked) (leg : LegFacts) (pick : LegChoice) (place : Option ChangeChoice) (move : Move) → IsSoundFeed feed →
-        IsPaidUpTo feed rider legs choice n walked → slice_get legs n ≡ Some leg → slice_get choice.legs n ≡ Some pick →
+        IsPaidUpTo feed buyer legs choice n walked → slice_get legs n ≡ Some leg → slice_get choice.legs n ≡ Some pick →
         IsPlaceBefore choice.changes n place →
-        move_after feed rider walked.state walked.held.0 leg (bare pick place) ≡ Some move → IsPaidUpTo feed rider legs choice (n + 1) (walked_after walked move)
+        move_after feed buyer walked.state walked.held.0 leg (bare pick place) ≡ Some move → IsPaidUpTo feed buyer legs choice (n + 1) (walked_after walked move)
     walk_next n walked leg pick place move sound up at at_pick at_place is =
-        let a = applied feed rider leg walked.state walked.held.0 (bare pick place) move is in
-        let after : IsMoveAfter feed rider (take n legs) (front choice n) leg move =
-        subst (λ (s : Option FareState). move_after feed rider s (held_amount feed (front choice n)) leg move ≡ Some move) (sym up.state)
-        (subst (λ (h : ℤ). move_after feed rider walked.state h leg move ≡ Some move) (sym up.held) a.is) in
-        let extends = extends_by feed rider (take n legs) (front choice n) leg move up.pays after in
+        let a = applied feed buyer leg walked.state walked.held.0 (bare pick place) move is in
+        let after : IsMoveAfter feed buyer (take n legs) (front choice n) leg move =
+        subst (λ (s : Option FareState). move_after feed buyer s (held_amount feed (front choice n)) leg move ≡ Some move) (sym up.state)
+        (subst (λ (h : ℤ). move_after feed buyer walked.state h leg move ≡ Some move) (sym up.held) a.is) in
+        let extends = extends_by feed buyer (take n legs) (front choice n) leg move up.pays after in
         let same = front_next n pick place move at_pick at_place a.pick (a.place ∙ place_of_bare pick place) in
         let longer : take n legs ++ leg ∷ [] ≡ take (n + 1) legs = sym (take_next legs n leg at) in
-        let small = move_small feed rider walked.state walked.held.0 leg move sound up.low a.is in
+        let small = move_small feed buyer walked.state walked.held.0 leg move sound up.low a.is in
         record {
-          pays = subst (λ (ls : List LegFacts). is_fare_choice feed ls (front choice (n + 1)) rider ≡ true) longer
-              (subst (λ (c : Choice). is_fare_choice feed (take n legs ++ leg ∷ []) c rider ≡ true) same extends.pays);
+          pays = subst (λ (ls : List LegFacts). is_fare_choice feed ls (front choice (n + 1)) buyer ≡ true) longer
+              (subst (λ (c : Choice). is_fare_choice feed (take n legs ++ leg ∷ []) c buyer ≡ true) same extends.pays);
           state = subst (λ (ls : List LegFacts). fare_state feed ls (front choice (n + 1)) ≡ Some move.state) longer
               (subst (λ (c : Choice). fare_state feed (take n legs ++ leg ∷ []) c ≡ Some move.state) same extends.state);
           paid = subst (λ (c : Choice). paid_amount feed c ≡ walked.paid.0 +ℤ move.paid.0) same
@@ -275,10 +275,10 @@ module _ (legs : List LegFacts) (choice : Choice) (places : length choice.legs �
 
     -- where a leg isn't paid the choice doesn't pay the legs
     pub walk_none : (n : ℕ) (walked : Walked) (leg : LegFacts) (pick : LegChoice) (place : Option ChangeChoice) →
-        IsPaidUpTo feed rider legs choice n walked → slice_get legs n ≡ Some leg → slice_get choice.legs n ≡ Some pick →
+        IsPaidUpTo feed buyer legs choice n walked → slice_get legs n ≡ Some leg → slice_get choice.legs n ≡ Some pick →
         IsPlaceBefore choice.changes n place →
-        move_after feed rider walked.state walked.held.0 leg (bare pick place) ≡ None → None ≡ fare_price feed legs choice rider
-    walk_none n walked leg pick place up at at_pick at_place none = by (is_fare_choice feed legs choice rider) refl
+        move_after feed buyer walked.state walked.held.0 leg (bare pick place) ≡ None → None ≡ fare_price feed legs choice buyer
+    walk_none n walked leg pick place up at at_pick at_place none = by (is_fare_choice feed legs choice buyer) refl
       where
         same_place : (k : ℕ) (a b : Option ChangeChoice) → IsPlaceBefore choice.changes k a → IsPlaceBefore choice.changes k b → a ≡ b
         same_place zero a b e f = e ∙ sym f
@@ -298,39 +298,39 @@ module _ (legs : List LegFacts) (choice : Choice) (places : length choice.legs �
             out None = x
             out (Some z) = z
 
-        no : is_fare_choice feed legs choice rider ≡ true → ⊥
+        no : is_fare_choice feed legs choice buyer ≡ true → ⊥
         no pays =
             let lt = slice_get_within legs n leg at in
             let made = made_front n leg at (front_pays pays (length legs - (n + 1)) (n + 1) (omega (arith, lt))) in
             let to = front_made n leg at made in
-            let from_front : move_after feed rider (fare_state feed (take n legs) (front choice n)) (held_amount feed (front choice n)) leg made.move ≡ Some made.move =
-            subst (λ (c : Choice). IsMoveAfter feed rider (take n legs) c leg made.move) to.same made.is in
-            let from_walked : move_after feed rider walked.state walked.held.0 leg made.move ≡ Some made.move =
-            subst (λ (h : ℤ). move_after feed rider walked.state h leg made.move ≡ Some made.move) up.held
-            (subst (λ (s : Option FareState). move_after feed rider s (held_amount feed (front choice n)) leg made.move ≡ Some made.move) up.state from_front) in
-            let whole = (extends_by feed rider (take n legs) made.choice leg made.move made.pays made.is).whole in
+            let from_front : move_after feed buyer (fare_state feed (take n legs) (front choice n)) (held_amount feed (front choice n)) leg made.move ≡ Some made.move =
+            subst (λ (c : Choice). IsMoveAfter feed buyer (take n legs) c leg made.move) to.same made.is in
+            let from_walked : move_after feed buyer walked.state walked.held.0 leg made.move ≡ Some made.move =
+            subst (λ (h : ℤ). move_after feed buyer walked.state h leg made.move ≡ Some made.move) up.held
+            (subst (λ (s : Option FareState). move_after feed buyer s (held_amount feed (front choice n)) leg made.move ≡ Some made.move) up.state from_front) in
+            let whole = (extends_by feed buyer (take n legs) made.choice leg made.move made.pays made.is).whole in
             let there =
-            same_test feed rider leg walked.state walked.held.0 made.move (bare pick place)
+            same_test feed buyer leg walked.state walked.held.0 made.move (bare pick place)
             (pick_equal _ _ (sym to.pick ∙ at_pick))
             (same_place n _ _ to.place at_place ∙ sym (place_of_bare pick place))
             (whole ∙ sym (whole_bare pick place)) in
             let bad : true ≡ false = sym (ap is_some from_walked) ∙ there ∙ ap is_some none in
             absurd (cc)
 
-        by : (b : Bool) → is_fare_choice feed legs choice rider ≡ b → None ≡ when b (fare_sum feed choice)
+        by : (b : Bool) → is_fare_choice feed legs choice buyer ≡ b → None ≡ when b (fare_sum feed choice)
         by false is = refl
         by true is = absurd (no is)
 
     -- after all legs
-    pub walk_end : (n : ℕ) (walked : Walked) → n ≡ length legs → IsPaidUpTo feed rider legs choice n walked →
-        Some (walked.paid.0 +ℤ walked.held.0) ≡ fare_price feed legs choice rider
+    pub walk_end : (n : ℕ) (walked : Walked) → n ≡ length legs → IsPaidUpTo feed buyer legs choice n walked →
+        Some (walked.paid.0 +ℤ walked.held.0) ≡ fare_price feed legs choice buyer
     unfolding paid_amount
     walk_end n walked all up =
         let whole : front choice n ≡ choice = ap (front choice) all ∙ front_all in
         let all_legs : take n legs ≡ legs = take_all n legs (omega (arith, all)) in
         let pays =
-        subst (λ (ls : List LegFacts). is_fare_choice feed ls choice rider ≡ true) all_legs
-        (subst (λ (c : Choice). is_fare_choice feed (take n legs) c rider ≡ true) whole up.pays) in
+        subst (λ (ls : List LegFacts). is_fare_choice feed ls choice buyer ≡ true) all_legs
+        (subst (λ (c : Choice). is_fare_choice feed (take n legs) c buyer ≡ true) whole up.pays) in
         let paid = subst (λ (c : Choice). paid_amount feed c ≡ walked.paid.0) whole up.paid in
         let held = subst (λ (c : Choice). held_amount feed c ≡ walked.held.0) whole up.held in
         ap Some (sum_of _ _ _ _ paid held ∙ both_parts) ∙ sym (ap (λ (b : Bool). when b (fare_sum feed choice)) pays)
@@ -344,15 +344,15 @@ module _ (legs : List LegFacts) (choice : Choice) (places : length choice.legs �
 -- ---- what doesn't fit
 
 -- a choice with other numbers of places pays nothing
-pub misfit : (feed : FeedRows) (rider : Option RiderId) (legs : List LegFacts) (choice : Choice) (picks : List LegChoice)
+pub misfit : (feed : FeedRows) (buyer : Buyer) (legs : List LegFacts) (choice : Choice) (picks : List LegChoice)
     (places : List (Option ChangeChoice)) → picks ≡ choice.legs → places ≡ choice.changes →
-    false ≡ ((length picks == length legs) && (length places == length legs - 1)) → None ≡ fare_price feed legs choice rider
-misfit feed rider legs choice picks places is_picks is_places unfit = by (is_fare_choice feed legs choice rider) refl
+    false ≡ ((length picks == length legs) && (length places == length legs - 1)) → None ≡ fare_price feed legs choice buyer
+misfit feed buyer legs choice picks places is_picks is_places unfit = by (is_fare_choice feed legs choice buyer) refl
   where
-    by : (b : Bool) → is_fare_choice feed legs choice rider ≡ b → None ≡ when b (fare_sum feed choice)
+    by : (b : Bool) → is_fare_choice feed legs choice buyer ≡ b → None ≡ when b (fare_sum feed choice)
     by false is = refl
     by true is =
-        let paid = places_of_paid feed rider legs choice is in
+        let paid = places_of_paid feed buyer legs choice is in
         let many = ap length is_picks ∙ paid.0 in
         let few = ap length is_places ∙ paid.1 in
         absurd (grind (arith, nat_tests, many, few, unfit))
@@ -368,16 +368,16 @@ fit legs choice picks places is_picks is_places fits =
     )
 
 -- what is applied, by what it is applied to
-pub moved : (feed feed' : FeedRows) (rider : Option RiderId) (state state' : Option FareState) (held : ℤ) (leg : LegFacts)
-    (taken taken' : Move) (o : Option Move) → o ≡ move_after feed' rider state' held leg taken → feed' ≡ feed → state' ≡ state →
-    taken ≡ taken' → move_after feed rider state held leg taken' ≡ o
-moved feed feed' rider state state' held leg taken taken' o is e f g =
-    sym (is ∙ ap (λ (x : FeedRows). move_after x rider state' held leg taken) e
-    ∙ ap (λ (x : Option FareState). move_after feed rider x held leg taken) f
-    ∙ ap (move_after feed rider state held leg) g)
+pub moved : (feed feed' : FeedRows) (buyer : Buyer) (state state' : Option FareState) (held : ℤ) (leg : LegFacts)
+    (taken taken' : Move) (o : Option Move) → o ≡ move_after feed' buyer state' held leg taken → feed' ≡ feed → state' ≡ state →
+    taken ≡ taken' → move_after feed buyer state held leg taken' ≡ o
+moved feed feed' buyer state state' held leg taken taken' o is e f g =
+    sym (is ∙ ap (λ (x : FeedRows). move_after x buyer state' held leg taken) e
+    ∙ ap (λ (x : Option FareState). move_after feed buyer x held leg taken) f
+    ∙ ap (move_after feed buyer state held leg) g)
 
 -- what is applied is small
-pub small_of : (feed : FeedRows) (rider : Option RiderId) (state : Option FareState) (held : ℤ) (leg : LegFacts) (taken move : Move) →
-    IsSoundFeed feed → nat_abs held ≤ 10 ^ 12 → move_after feed rider state held leg taken ≡ Some move → IsSmall move
-small_of feed rider state held leg taken move sound low is =
-    move_small feed rider state held leg move sound low (applied feed rider leg state held taken move is).is
+pub small_of : (feed : FeedRows) (buyer : Buyer) (state : Option FareState) (held : ℤ) (leg : LegFacts) (taken move : Move) →
+    IsSoundFeed feed → nat_abs held ≤ 10 ^ 12 → move_after feed buyer state held leg taken ≡ Some move → IsSmall move
+small_of feed buyer state held leg taken move sound low is =
+    move_small feed buyer state held leg move sound low (applied feed buyer leg state held taken move is).is

@@ -10,7 +10,7 @@ pub record AreKnown (lists : List (KindList LegChoice)) (legs : List LegFacts) (
   pub many : length numbers ≡ length legs
   pub each : (i : ℕ) (leg : LegFacts) (number : ℕ) → slice_get legs i ≡ Some leg → slice_get numbers i ≡ Some number → IsOfKind lists leg number
 
--- a feed and a rider, and legs
+-- a feed and a buyer, and legs
 pub record FareLegs : Type 0 where
   pub terms : FareTerms
   pub legs : List LegFacts

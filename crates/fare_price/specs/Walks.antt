@@ -1,7 +1,7 @@
 -- Where fares stand after the first legs that a given choice pays.
 use Rattle.std.specs.Prelude.{◌≡◌, ℕ, zero, suc, ◌-◌, ◌*◌, ◌^◌, ◌≤◌, true, List, Option, Some, None, pos, ◌+ℤ◌, nat_abs, slice_get}
 use Rattle.std.proofs.Common.{take}
-use Rattle.transit_base.specs.declared.numbers.RiderId.{RiderId}
+use Rattle.feed_rows.specs.declared.journeys.Buyer.{Buyer}
 use Rattle.feed_rows.specs.declared.fares.ChangeChoice.{ChangeChoice}
 use Rattle.feed_rows.specs.declared.fares.Choice.{Choice}
 use Rattle.feed_rows.specs.declared.journeys.LegFacts.{LegFacts}
@@ -30,9 +30,9 @@ abbrev pub front : Choice → ℕ → Choice
 front choice n = record { legs = take n choice.legs; changes = take (n - 1) choice.changes }
 
 -- the choice pays the first n legs, and fares are so after them
-pub record IsPaidUpTo (feed : FeedRows) (rider : Option RiderId) (legs : List LegFacts) (choice : Choice) (n : ℕ)
+pub record IsPaidUpTo (feed : FeedRows) (buyer : Buyer) (legs : List LegFacts) (choice : Choice) (n : ℕ)
     (walked : Walked) : Type 0 where
-  pub pays : is_fare_choice feed (take n legs) (front choice n) rider ≡ true
+  pub pays : is_fare_choice feed (take n legs) (front choice n) buyer ≡ true
   pub state : fare_state feed (take n legs) (front choice n) ≡ walked.state
   pub paid : paid_amount feed (front choice n) ≡ walked.paid.0
   pub held : held_amount feed (front choice n) ≡ walked.held.0

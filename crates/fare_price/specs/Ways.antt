@@ -1,11 +1,8 @@
 -- Ways to pay legs: the moves that lead to them, the choices that their steps make, and what a search keeps true of
 -- them.
-use Rattle.std.specs.Prelude.{◌≡◌, ℕ, zero, suc, ◌+◌, ◌*◌, ◌^◌, ◌<◌, ◌≤◌, ◌⊎◌, Bool, true, false, not, ◌&&◌, ◌==◌, if◌then◌else◌, List, [], Option, Some, None, ℤ, pos, ◌+ℤ◌, ◌≤ℤ◌, int_le, nat_abs, slice_get, Contains}
+use Rattle.std.specs.Prelude.{◌≡◌, ℕ, zero, suc, ◌+◌, ◌*◌, ◌^◌, ◌<◌, ◌≤◌, ◌⊎◌, Bool, true, ◌&&◌, List, [], Option, Some, None, ℤ, pos, ◌+ℤ◌, ◌≤ℤ◌, int_le, nat_abs, slice_get, Contains}
 use Rattle.std.specs.Option.{option_map_or}
-use Rattle.std.specs.Ordering.{int_eq}
-use Rattle.transit_base.specs.declared.moments.Moment.{Moment}
-use Rattle.transit_base.specs.declared.numbers.LegGroupId.{LegGroupId}
-use Rattle.transit_base.specs.declared.numbers.RiderId.{RiderId}
+use Rattle.feed_rows.specs.declared.journeys.Buyer.{Buyer}
 use Rattle.feed_rows.specs.declared.fares.Choice.{Choice}
 use Rattle.feed_rows.specs.declared.journeys.LegFacts.{LegFacts}
 use Rattle.feed_rows.specs.declared.states.FareState.{FareState}
@@ -14,39 +11,13 @@ use Rattle.feed_rows.specs.FeedRows.{FeedRows}
 use Rattle.feed_rows.specs.FareChoices.{is_fare_choice}
 use Rattle.feed_rows.specs.FareExtensions.{extended}
 use Rattle.feed_rows.specs.FareStates.{held_amount, paid_amount, fare_state}
+use Rattle.feed_rows.specs.SameStates.{same_parts}
 use Rattle.feed_rows.specs.FareSteps.{move_after}
+use Rattle.plain_laws.specs.Lesser.{lesser_by}
 use Rattle.label_bag.specs.Bags.{covers}
 use Rattle.fare_price.specs.declared.ways.Way.{Way}
 
 -- ---- which way is as good as another
-
--- both groups are there and equal, or neither is there
-abbrev pub same_group : Option LegGroupId → Option LegGroupId → Bool
-same_group None None = true
-same_group None (Some b) = false
-same_group (Some a) None = false
-same_group (Some a) (Some b) = a.0 == b.0
-
--- the same of moments
-abbrev pub same_moment : Option Moment → Option Moment → Bool
-same_moment None None = true
-same_moment None (Some b) = false
-same_moment (Some a) None = false
-same_moment (Some a) (Some b) = int_eq a.0 b.0
-
--- both flags are set, or neither is
-abbrev pub same_flag : Bool → Bool → Bool
-same_flag true b = b
-same_flag false b = not b
-
--- each part of the states is the same
-unfoldable pub same_state : FareState → FareState → Bool
-same_state a b =
-    same_group a.group b.group
-    && (a.count == b.count)
-    && same_moment a.departure b.departure
-    && same_moment a.arrival b.arrival
-    && same_flag a.first b.first
 
 -- what the legs cost
 abbrev pub cost : Way → ℤ
@@ -60,7 +31,7 @@ pub record IsBelow (a b : Way) : Type 0 where
 
 -- the test of that
 unfoldable pub is_as_good : Way → Way → Bool
-is_as_good a b = int_le a.paid.0 b.paid.0 && int_le (cost a) (cost b) && same_state a.step.state b.step.state
+is_as_good a b = int_le a.paid.0 b.paid.0 && int_le (cost a) (cost b) && same_parts a.step.state b.step.state
 
 -- ---- what moves lead to
 
@@ -80,47 +51,46 @@ pub record IsBounded (n : ℕ) (way : Way) : Type 0 where
 
 -- the last move of the way is one for the leg after the state, where so much is held, in the way of this number; and
 -- so much was paid before
-pub record IsMadeAfter (feed : FeedRows) (rider : Option RiderId) (leg : LegFacts) (state : Option FareState)
+pub record IsMadeAfter (feed : FeedRows) (buyer : Buyer) (leg : LegFacts) (state : Option FareState)
     (held paid : ℤ) (number : ℕ) (way : Way) : Type 0 where
-  pub is : move_after feed rider state held leg way.step ≡ Some way.step
+  pub is : move_after feed buyer state held leg way.step ≡ Some way.step
   pub same : way_by paid number way.step ≡ way
 
 -- such ways were added: each is covered
-pub record AddsWays (feed : FeedRows) (rider : Option RiderId) (leg : LegFacts) (state : Option FareState)
+pub record AddsWays (feed : FeedRows) (buyer : Buyer) (leg : LegFacts) (state : Option FareState)
     (held paid : ℤ) (number : ℕ) (old new : List Way) : Type 0 where
   pub still : (way : Way) → covers is_as_good old way ≡ true → covers is_as_good new way ≡ true
-  pub each : (move : Move) → move_after feed rider state held leg move ≡ Some move → covers is_as_good new (way_by paid number move) ≡ true
-  pub from : (way : Way) → Contains new way → Contains old way ⊎ IsMadeAfter feed rider leg state held paid number way
+  pub each : (move : Move) → move_after feed buyer state held leg move ≡ Some move → covers is_as_good new (way_by paid number move) ≡ true
+  pub from : (way : Way) → Contains new way → Contains old way ⊎ IsMadeAfter feed buyer leg state held paid number way
 
 -- the same after the way of this number
-abbrev pub AddsAfter : FeedRows → Option RiderId → LegFacts → ℕ → Way → List Way → List Way → Type 0
-AddsAfter feed rider leg number last old new =
-    AddsWays feed rider leg (Some last.step.state) last.step.held.0 last.paid.0 number old new
+abbrev pub AddsAfter : FeedRows → Buyer → LegFacts → ℕ → Way → List Way → List Way → Type 0
+AddsAfter feed buyer leg number last old new =
+    AddsWays feed buyer leg (Some last.step.state) last.step.held.0 last.paid.0 number old new
 
 -- the best ways to pay one leg
-abbrev pub AreFirstWays : FeedRows → Option RiderId → LegFacts → List Way → Type 0
-AreFirstWays feed rider leg new = AddsWays feed rider leg None (pos 0) (pos 0) 0 [] new
+abbrev pub AreFirstWays : FeedRows → Buyer → LegFacts → List Way → Type 0
+AreFirstWays feed buyer leg new = AddsWays feed buyer leg None (pos 0) (pos 0) 0 [] new
 
 -- the way is one leg more after one of these ways, which are numbered on from `base`
-pub record IsAfterOne (feed : FeedRows) (rider : Option RiderId) (leg : LegFacts) (base : ℕ) (ways : List Way)
+pub record IsAfterOne (feed : FeedRows) (buyer : Buyer) (leg : LegFacts) (base : ℕ) (ways : List Way)
     (way : Way) : Type 0 where
   pub place : ℕ
   pub last : Way
   pub at : slice_get ways place ≡ Some last
-  pub made : IsMadeAfter feed rider leg (Some last.step.state) last.step.held.0 last.paid.0 (base + place) way
+  pub made : IsMadeAfter feed buyer leg (Some last.step.state) last.step.held.0 last.paid.0 (base + place) way
 
 -- the best ways to pay one leg more after the first n of these ways
-pub record AreNextWays (feed : FeedRows) (rider : Option RiderId) (leg : LegFacts) (base : ℕ) (ways : List Way) (n : ℕ)
+pub record AreNextWays (feed : FeedRows) (buyer : Buyer) (leg : LegFacts) (base : ℕ) (ways : List Way) (n : ℕ)
     (new : List Way) : Type 0 where
   pub each : (place : ℕ) (last : Way) (move : Move) → place < n → slice_get ways place ≡ Some last
-      → move_after feed rider (Some last.step.state) last.step.held.0 leg move ≡ Some move
+      → move_after feed buyer (Some last.step.state) last.step.held.0 leg move ≡ Some move
       → covers is_as_good new (way_by last.paid.0 (base + place) move) ≡ true
-  pub from : (way : Way) → Contains new way → IsAfterOne feed rider leg base ways way
+  pub from : (way : Way) → Contains new way → IsAfterOne feed buyer leg base ways way
 
 -- the one that costs less: the first, where both cost the same
 abbrev pub cheaper : Option Way → Way → Way
-cheaper None way = way
-cheaper (Some other) way = if int_le (cost other) (cost way) then other else way
+cheaper = lesser_by cost
 
 -- ---- the choice that steps make
 
@@ -147,10 +117,10 @@ pub record IsStateOf (feed : FeedRows) (legs : List LegFacts) (choice : Choice) 
   pub held : held_amount feed choice ≡ way.step.held.0
 
 -- the steps to the way make a choice that pays n + 1 legs, and fares are as the way says
-pub record IsReal (feed : FeedRows) (rider : Option RiderId) (legs : List LegFacts) (steps : List Way) (n : ℕ)
+pub record IsReal (feed : FeedRows) (buyer : Buyer) (legs : List LegFacts) (steps : List Way) (n : ℕ)
     (way : Way) : Type 0 where
   pub traced : IsTraced steps n way
-  pub pays : is_fare_choice feed legs (choice_of steps n way) rider ≡ true
+  pub pays : is_fare_choice feed legs (choice_of steps n way) buyer ≡ true
   pub of : IsStateOf feed legs (choice_of steps n way) way
   pub bounded : IsBounded (n + 1) way
 
@@ -163,7 +133,7 @@ pub record HasNoDearer (feed : FeedRows) (legs : List LegFacts) (ways : List Way
   pub cost : cost way ≤ℤ (paid_amount feed choice +ℤ held_amount feed choice)
 
 -- each way pays n + 1 legs, and beside each choice that pays them stands such a way
-pub record AreWaysOf (feed : FeedRows) (rider : Option RiderId) (legs : List LegFacts) (steps : List Way) (n : ℕ)
+pub record AreWaysOf (feed : FeedRows) (buyer : Buyer) (legs : List LegFacts) (steps : List Way) (n : ℕ)
     (ways : List Way) : Type 0 where
-  pub real : (way : Way) → Contains ways way → IsReal feed rider legs steps n way
-  pub complete : (choice : Choice) → is_fare_choice feed legs choice rider ≡ true → HasNoDearer feed legs ways choice
+  pub real : (way : Way) → Contains ways way → IsReal feed buyer legs steps n way
+  pub complete : (choice : Choice) → is_fare_choice feed legs choice buyer ≡ true → HasNoDearer feed legs ways choice

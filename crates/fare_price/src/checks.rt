@@ -6,8 +6,8 @@ ghost use Rattle.fare_price.specs.Ways.{IsSmall};
 
 use crate::fares::Fares;
 use fare_automaton::bare;
-use feed_rows::{ChangeChoice, Choice, FareState, LegFacts, Move};
-use transit_base::{Money, RiderId};
+use feed_rows::{Buyer, ChangeChoice, Choice, FareState, LegFacts, Move};
+use transit_base::Money;
 
 /// Where the fares of some legs stand.
 #[derive(Clone, Copy)]
@@ -20,15 +20,10 @@ struct Walked {
     held: Money,
 }
 
-/// The sum of the choice; none where it doesn't pay the legs for the rider.
-pub fn verify(
-    fares: &Fares,
-    legs: &[LegFacts],
-    choice: &Choice,
-    rider: Option<RiderId>,
-) -> Option<Money>
+/// The sum of the choice; none where it doesn't pay the legs for the buyer.
+pub fn verify(fares: &Fares, legs: &[LegFacts], choice: &Choice, buyer: Buyer) -> Option<Money>
     requires few { length legs.now ≤ 12 }
-    ensures { option_map (λ (sum : Money). sum.0) result ≡ fare_price fares.now legs.now choice.now rider }
+    ensures { option_map (λ (sum : Money). sum.0) result ≡ fare_price fares.now legs.now choice.now buyer }
 {
     let picks = choice.legs.items();
     let places = choice.changes.items();
@@ -46,7 +41,7 @@ pub fn verify(
         let state = walked.state.as_ref();
         match fares
             .automaton
-            .apply_for(rider, state, walked.held, &legs[number], &taken)
+            .apply_for(buyer, state, walked.held, &legs[number], &taken)
         {
             Some(step) => walked = walked.after(&step),
             None => return None,

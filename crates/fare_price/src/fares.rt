@@ -3,13 +3,13 @@ ghost use Rattle.std.specs.Prelude.{◌≡◌, IfOk};
 ghost use Rattle.feed_rows.specs.SoundFeed.{IsSoundFeed};
 
 use fare_automaton::Automaton;
-use feed_rows::Feed;
+use feed_rows::{Feed, NO_CATEGORY};
 use std::alloc::{AllocError, Global};
 use std::marker::Model;
 
-/// The fare rules of a feed, by which a choice is judged for any rider. Contracts see it as the rows of its feed.
+/// The fare rules of a feed, by which a choice is judged for any buyer. Contracts see it as the rows of its feed.
 pub struct Fares<'f> {
-    /// The automaton for no rider category.
+    /// The automaton for a buyer without a rider category.
     pub(crate) automaton: Automaton<'f>,
 }
 
@@ -36,7 +36,7 @@ impl<'f> Fares<'f> {
     pub fn build(alloc: Global, feed: &'f Feed) -> Result<Fares<'f>, AllocError>
         ensures { IfOk result (λ fares. fares ≡ feed.now) }
     {
-        let automaton = Automaton::compile(alloc, feed, None)?;
+        let automaton = Automaton::compile(alloc, feed, NO_CATEGORY)?;
         Ok(Fares { automaton })
     }
 

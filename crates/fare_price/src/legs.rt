@@ -12,7 +12,7 @@ use std::alloc::{AllocError, Global};
 use std::marker::Model;
 
 /// Legs in order, with the number under which it is kept what it is enough to pay for each. What was once asked is kept while
-/// legs come and go. Contracts see the feed and the rider, and the legs.
+/// legs come and go. Contracts see the feed and the buyer, and the legs.
 pub struct KnownLegs<'r, 'f> {
     known: KnownOptions<'r, 'f>,
     legs: Vec<LegFacts>,
@@ -78,7 +78,7 @@ impl<'r, 'f> KnownLegs<'r, 'f> {
     /// Want of memory.
     pub fn price(&self, alloc: Global) -> Result<Option<Priced>, AllocError>
         requires { length self.now.legs ≤ 12 }
-        ensures { IfOk result (IsLeastOrNone self.now.terms.feed self.now.legs self.now.terms.rider) }
+        ensures { IfOk result (IsLeastOrNone self.now.terms.feed self.now.legs self.now.terms.buyer) }
     {
         price_known(alloc, &self.known, &self.legs, &self.numbers)
     }

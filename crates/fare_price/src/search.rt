@@ -12,9 +12,11 @@ use crate::fares::Fares;
 use crate::known::know_all;
 use crate::ways::{Way, Ways};
 use fare_automaton::{Automaton, KnownOptions, leg_taken, place_taken, times_of};
-use feed_rows::{ChangeChoice, ChangeChoices, Choice, LegChoice, LegChoices, LegFacts, Move};
+use feed_rows::{
+    Buyer, ChangeChoice, ChangeChoices, Choice, LegChoice, LegChoices, LegFacts, Move,
+};
 use std::alloc::{AllocError, Global};
-use transit_base::{Money, RiderId};
+use transit_base::Money;
 
 /// What is found for one way after another, kept for its memory.
 #[derive(Drop)]
@@ -23,7 +25,7 @@ struct Room {
     moves: Vec<Move>,
 }
 
-/// A choice of least price for the legs and the rider, and its price; none where no choice pays them.
+/// A choice of least price for the legs and the buyer, and its price; none where no choice pays them.
 ///
 /// # Errors
 /// Want of memory.
@@ -31,12 +33,12 @@ pub fn price(
     alloc: Global,
     fares: &Fares,
     legs: &[LegFacts],
-    rider: Option<RiderId>,
+    buyer: Buyer,
 ) -> Result<Option<Priced>, AllocError>
     requires few { length legs.now ≤ 12 }
-    ensures { IfOk result (IsLeastOrNone fares.now legs.now rider) }
+    ensures { IfOk result (IsLeastOrNone fares.now legs.now buyer) }
 {
-    let automaton = Automaton::compile(alloc, fares.feed(), rider)?;
+    let automaton = Automaton::compile(alloc, fares.feed(), buyer)?;
     let mut known = KnownOptions::of(alloc, &automaton);
     let numbers = know_all(alloc, legs, &mut known)?;
     price_known(alloc, &known, legs, &numbers)
@@ -54,7 +56,7 @@ pub fn price_known(
 ) -> Result<Option<Priced>, AllocError>
     requires few { length legs.now ≤ 12 }
     requires known { AreKnown known.now.lists legs.now numbers.now }
-    ensures { IfOk result (IsLeastOrNone known.now.terms.feed legs.now known.now.terms.rider) }
+    ensures { IfOk result (IsLeastOrNone known.now.terms.feed legs.now known.now.terms.buyer) }
 {
     if legs.is_empty() {
         return Ok(Some(Priced {
@@ -84,7 +86,7 @@ fn ways_to_pay(
     requires some { 0 < length legs.now }
     requires few { length legs.now ≤ 12 }
     requires known { AreKnown known.now.lists legs.now numbers.now }
-    ensures { IfOk result (AreWaysOf known.now.terms.feed known.now.terms.rider legs.now steps.new.items (length legs.now - 1)) }
+    ensures { IfOk result (AreWaysOf known.now.terms.feed known.now.terms.buyer legs.now steps.new.items (length legs.now - 1)) }
 {
     let automaton = known.automaton();
     let _feed = automaton.feed();
@@ -122,8 +124,8 @@ fn first_ways(
     options: &[LegChoice],
     room: &mut Room,
 ) -> Result<Ways, AllocError>
-    requires enough { AreEnough automaton.now.feed automaton.now.rider leg.now options.now }
-    ensures { IfOk result (AreFirstWays automaton.now.feed automaton.now.rider leg.now) }
+    requires enough { AreEnough automaton.now.feed automaton.now.buyer leg.now options.now }
+    ensures { IfOk result (AreFirstWays automaton.now.feed automaton.now.buyer leg.now) }
 {
     let _feed = automaton.feed();
     automaton.start_into(times_of(leg), options, &mut room.moves)?;
@@ -142,10 +144,10 @@ fn next_ways(
     ways: &Ways,
     room: &mut Room,
 ) -> Result<Ways, AllocError>
-    requires enough { AreEnough automaton.now.feed automaton.now.rider leg.now options.now }
+    requires enough { AreEnough automaton.now.feed automaton.now.buyer leg.now options.now }
     requires bounded { All (IsBounded 11) ways.now }
     ensures kept { OnOk result (steps.new.items ≡ steps.old.items ++ ways.now) }
-    ensures next { IfOk result (AreNextWays automaton.now.feed automaton.now.rider leg.now (length steps.old.items) ways.now (length ways.now)) }
+    ensures next { IfOk result (AreNextWays automaton.now.feed automaton.now.buyer leg.now (length steps.old.items) ways.now (length ways.now)) }
 {
     let base = steps.len();
     keep(steps, ways)?;
@@ -174,9 +176,9 @@ fn offer_after(
     number: usize,
     room: &mut Room,
 ) -> Result<(), AllocError>
-    requires enough { AreEnough automaton.now.feed automaton.now.rider leg.now options.now }
+    requires enough { AreEnough automaton.now.feed automaton.now.buyer leg.now options.now }
     requires bounded { IsBounded 11 way.now }
-    ensures { OnOk result (AddsAfter automaton.now.feed automaton.now.rider leg.now number way.now next.old next.new) }
+    ensures { OnOk result (AddsAfter automaton.now.feed automaton.now.buyer leg.now number way.now next.old next.new) }
 {
     let _feed = automaton.feed();
     automaton.cheapest_into(

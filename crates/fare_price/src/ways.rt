@@ -1,14 +1,15 @@
 //! The ways to pay some legs, of which none is as good as another.
 ghost use Rattle.std.specs.Prelude.{◌≡◌, ◌<◌, ◌≤◌, ◌^◌, [], ◌∷◌, ◌+ℤ◌, length, map, nat_abs, slice_get, Some, All, OnOk};
 ghost use Rattle.label_bag.specs.Bags.{Gathers};
-ghost use Rattle.fare_price.specs.Ways.{cost, is_as_good, same_group, same_moment, same_flag, same_state, way_by, IsSmall};
+ghost use Rattle.feed_rows.specs.SameStates.{same_parts};
+ghost use Rattle.fare_price.specs.Ways.{cost, is_as_good, way_by, IsSmall};
 
 use feed_rows::{FareState, Move};
 use label_bag::{Bag, ListBag};
 use label_order::LabelOrder;
 use std::alloc::{AllocError, Global};
 use std::marker::Model;
-use transit_base::{LegGroupId, Moment, Money};
+use transit_base::Money;
 
 /// A way to pay some legs: what is paid, and the last move.
 #[derive(Clone, Copy)]
@@ -35,8 +36,16 @@ impl Way {
     {
         self.paid.0 <= other.paid.0
             && self.cost() <= other.cost()
-            && same_state(&self.step.state, &other.step.state)
+            && same_parts(&self.step.state, &other.step.state)
     }
+}
+
+/// Whether each part of the states is the same.
+#[tactic(auto, unfolding(feed_rows::specs::SameStates::same_parts))]
+fn same_parts(a: &FareState, b: &FareState) -> bool
+    ensures { result ≡ same_parts a.now b.now }
+{
+    *a == *b
 }
 
 impl LabelOrder for Way {
@@ -50,47 +59,6 @@ impl LabelOrder for Way {
     }
 
     ghost laws = { way_laws };
-}
-
-/// Whether each part of the states is the same.
-#[tactic(auto, unfolding(crate::specs::Ways::same_state))]
-fn same_state(a: &FareState, b: &FareState) -> bool
-    ensures { result ≡ same_state a.now b.now }
-{
-    same_group(a.group, b.group)
-        && a.count == b.count
-        && same_moment(a.departure, b.departure)
-        && same_moment(a.arrival, b.arrival)
-        && same_flag(a.first, b.first)
-}
-
-/// Whether both groups are there and equal, or neither is there.
-fn same_group(a: Option<LegGroupId>, b: Option<LegGroupId>) -> bool
-    ensures { result ≡ same_group a b }
-{
-    match (a, b) {
-        (Some(one), Some(other)) => one.0 == other.0,
-        (None, None) => true,
-        _ => false,
-    }
-}
-
-/// Whether both moments are there and equal, or neither is there.
-fn same_moment(a: Option<Moment>, b: Option<Moment>) -> bool
-    ensures { result ≡ same_moment a b }
-{
-    match (a, b) {
-        (Some(one), Some(other)) => one.0 == other.0,
-        (None, None) => true,
-        _ => false,
-    }
-}
-
-/// Whether both flags are set, or neither is.
-fn same_flag(a: bool, b: bool) -> bool
-    ensures { result ≡ same_flag a b }
-{
-    if a { b } else { !b }
 }
 
 /// Ways to pay the same legs. Contracts see a list.

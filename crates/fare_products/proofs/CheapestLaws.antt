@@ -1,4 +1,4 @@
--- The cheapest of a product's rows that are open to a rider, row by row.
+-- The cheapest of a product's rows that are open to a buyer, row by row.
 use Rattle.std.proofs.Common.{◌≡◌, refl, sym, ◌∙◌, ap, subst, ℕ, zero, suc, ◌+◌, ◌<◌, ◌≤◌, ◌⊎◌, inl, inr, arith}
 use Rattle.std.proofs.Common.{Bool, true, false, List, [], ◌∷◌, ◌++◌, length, map, take, append-nil}
 use Rattle.std.specs.Prelude.{Option, Some, None, ℤ, ◌≤ℤ◌, ◌<ℤ◌, int_lt, slice_get, option_map, IfSome}
@@ -12,7 +12,7 @@ use Rattle.std.proofs.lemmas.Option.{unwrap_or-slice_get}
 use Rattle.std.proofs.lemmas.List.Sums.{fold_push}
 use Rattle.transit_base.specs.declared.numbers.ProductId.{ProductId}
 use Rattle.transit_base.specs.declared.numbers.ProductRowId.{ProductRowId}
-use Rattle.transit_base.specs.declared.numbers.RiderId.{RiderId}
+use Rattle.feed_rows.specs.declared.journeys.Buyer.{Buyer}
 use Rattle.feed_rows.specs.declared.rows.ProductRow.{ProductRow}
 use Rattle.feed_rows.specs.FeedRows.{FeedRows}
 use Rattle.feed_rows.specs.FareChoices.{is_open}
@@ -27,10 +27,10 @@ use Rattle.fare_products.specs.declared.offers.Offer.{Offer}
 use Rattle.fare_products.specs.Offers.{offer, offer_at, offers_at, is_of, opens, cheaper, least_offer}
 use Rattle.fare_products.specs.BuiltProducts.{AreProductsOf, AreLeastRowsOf, least_at}
 
-module _ (feed : FeedRows) (product : ProductId) (rider : Option RiderId) where
+module _ (feed : FeedRows) (product : ProductId) (buyer : Buyer) where
   -- row i, where it is open
   abbrev IsOpenAt : ℕ → ProductRow → Type 0
-  IsOpenAt i row = (slice_get feed.products i ≡ Some row) × (is_open product rider row ≡ true)
+  IsOpenAt i row = (slice_get feed.products i ≡ Some row) × (is_open product buyer row ≡ true)
 
   -- P holds of each open row below n
   abbrev EachOpen : ℕ → (ProductRow → Type 0) → Type 0
@@ -56,7 +56,7 @@ module _ (feed : FeedRows) (product : ProductId) (rider : Option RiderId) where
     row : ProductRow
     within : priced.row.0 < n
     is : slice_get feed.products priced.row.0 ≡ Some row
-    opens : is_open product rider row ≡ true
+    opens : is_open product buyer row ≡ true
     amount : priced.amount.0 ≡ row.amount.0
     least : EachOpen n (λ other. row.amount.0 ≤ℤ other.amount.0)
     dearer : EachOpen priced.row.0 (λ other. row.amount.0 <ℤ other.amount.0)
@@ -87,7 +87,7 @@ module _ (feed : FeedRows) (product : ProductId) (rider : Option RiderId) where
   skip n (Some priced) kept closed = stay n priced kept (λ other at. absurd (closed other at))
 
   -- an open row that is cheaper than all before it is kept
-  keep : (n : ℕ) (row : ProductRow) → slice_get feed.products n ≡ Some row → is_open product rider row ≡ true
+  keep : (n : ℕ) (row : ProductRow) → slice_get feed.products n ≡ Some row → is_open product buyer row ≡ true
       → EachOpen n (λ other. row.amount.0 <ℤ other.amount.0)
       → IsLeastBelow (suc n) (record { row = record { 0 = n }; amount = row.amount })
   keep n row here passes cheap =
@@ -113,26 +113,26 @@ module _ (feed : FeedRows) (product : ProductId) (rider : Option RiderId) where
 
   -- a row of the product is open where its offer is, and one of another product isn't
   open_is : (n : ℕ) (row : ProductRow) → is_of product.0 row ≡ true
-      → is_open product rider row ≡ opens rider (offer n row)
+      → is_open product buyer row ≡ opens buyer (offer n row)
   unfolding is_open
   open_is n row of = rw of refl
 
-  closed_is : (row : ProductRow) → is_of product.0 row ≡ false → is_open product rider row ≡ false
+  closed_is : (row : ProductRow) → is_of product.0 row ≡ false → is_open product buyer row ≡ false
   unfolding is_open
   closed_is row other = rw other refl
 
   -- a row that isn't open is no open row
-  closed : (n : ℕ) (row : ProductRow) → slice_get feed.products n ≡ Some row → is_open product rider row ≡ false
+  closed : (n : ℕ) (row : ProductRow) → slice_get feed.products n ≡ Some row → is_open product buyer row ≡ false
       → (other : ProductRow) → IsOpenAt n other → ⊥
   closed n row here shut other at =
       let same : row ≡ other = same_Some row other (sym here ∙ at.0) in
-      let bad : true ≡ false = sym at.1 ∙ ap (is_open product rider) (sym same) ∙ shut in
+      let bad : true ≡ false = sym at.1 ∙ ap (is_open product buyer) (sym same) ∙ shut in
       cc
 
   -- one row more of the product
   step : (n : ℕ) (row : ProductRow) → slice_get feed.products n ≡ Some row → is_of product.0 row ≡ true
-      → (kept : Option Priced1) → Tells n kept → Tells (suc n) (cheaper rider kept (offer n row))
-  step n row here of kept tells = by (opens rider (offer n row)) refl kept tells
+      → (kept : Option Priced1) → Tells n kept → Tells (suc n) (cheaper buyer kept (offer n row))
+  step n row here of kept tells = by (opens buyer (offer n row)) refl kept tells
     where
       below : (a b c : ℤ) → a <ℤ b → b ≤ℤ c → a <ℤ c
       below a b c lt le = omega (arith, ints, lt, le)
@@ -143,15 +143,15 @@ module _ (feed : FeedRows) (product : ProductId) (rider : Option RiderId) where
       le_of : (a b : ℤ) → int_lt a b ≡ false → b ≤ℤ a
       le_of a b e = grind (arith, ints, nat_tests)
 
-      by : (b : Bool) → opens rider (offer n row) ≡ b → (kept : Option Priced1) → Tells n kept
-          → Tells (suc n) (cheaper rider kept (offer n row))
+      by : (b : Bool) → opens buyer (offer n row) ≡ b → (kept : Option Priced1) → Tells n kept
+          → Tells (suc n) (cheaper buyer kept (offer n row))
       by false e kept tells = rw e (skip n kept tells (closed n row here (open_is n row of ∙ e)))
       by true e None none =
           rw e (keep n row here (open_is n row of ∙ e) (λ j other lt at. absurd (none j other lt at)))
       by true e (Some priced) least = compare (int_lt row.amount.0 priced.amount.0) refl
         where
           compare : (b : Bool) → int_lt row.amount.0 priced.amount.0 ≡ b
-              → Tells (suc n) (cheaper rider (Some priced) (offer n row))
+              → Tells (suc n) (cheaper buyer (Some priced) (offer n row))
           compare true less =
               let lt = lt_of row.amount.0 priced.amount.0 less in
               let cheap = subst (λ a. row.amount.0 <ℤ a) least.amount lt in
@@ -167,35 +167,35 @@ module _ (feed : FeedRows) (product : ProductId) (rider : Option RiderId) where
   offers_below n = picks_below n (λ i. at_and feed.products i (is_of product.0)) (offer_at feed.products)
 
   -- what is kept after n rows
-  tells : (n : ℕ) → Tells n (least_offer rider (offers_below n))
+  tells : (n : ℕ) → Tells n (least_offer buyer (offers_below n))
   tells zero = λ j other lt at. absurd (omega arith)
   tells (suc n) = by (slice_get feed.products n) refl (tells n)
     where
-      by : (o : Option ProductRow) → slice_get feed.products n ≡ o → Tells n (least_offer rider (offers_below n))
-          → Tells (suc n) (least_offer rider (offers_below (suc n)))
+      by : (o : Option ProductRow) → slice_get feed.products n ≡ o → Tells n (least_offer buyer (offers_below n))
+          → Tells (suc n) (least_offer buyer (offers_below (suc n)))
       by None gone before =
           rw (gone, append-nil (offers_below n))
-          (skip n (least_offer rider (offers_below n)) before (λ other at. none-some other (sym gone ∙ at.0)))
+          (skip n (least_offer buyer (offers_below n)) before (λ other at. none-some other (sym gone ∙ at.0)))
       by (Some row) here before = of (is_of product.0 row) refl
         where
           at : offer_at feed.products n ≡ offer n row
           at = rw here refl
 
-          of : (b : Bool) → is_of product.0 row ≡ b → Tells (suc n) (least_offer rider (offers_below (suc n)))
+          of : (b : Bool) → is_of product.0 row ≡ b → Tells (suc n) (least_offer buyer (offers_below (suc n)))
           of false e =
               rw (here, e, append-nil (offers_below n))
-              (skip n (least_offer rider (offers_below n)) before (closed n row here (closed_is row e)))
+              (skip n (least_offer buyer (offers_below n)) before (closed n row here (closed_is row e)))
           of true e =
-              let last = fold_push (cheaper rider) None (offers_below n) (offer n row) in
-              subst (Tells (suc n)) (sym (ap (least_offer rider) all ∙ last))
-              (step n row here e (least_offer rider (offers_below n)) before)
+              let last = fold_push (cheaper buyer) None (offers_below n) (offer n row) in
+              subst (Tells (suc n)) (sym (ap (least_offer buyer) all ∙ last))
+              (step n row here e (least_offer buyer (offers_below n)) before)
             where
               all : offers_below (suc n) ≡ offers_below n ++ offer n row ∷ []
               all = rw (here, e) refl
 
   -- what is kept in the end is the cheapest open row, with its amount
   pub record IsCheapest (kept : Option Priced1) : Type 0 where
-    pub row : option_map (λ p. p.row) kept ≡ least_open_row feed product rider
+    pub row : option_map (λ p. p.row) kept ≡ least_open_row feed product buyer
     pub amount : IfSome kept (λ p. p.amount.0 ≡ amount_of feed p.row)
 
   amount_is : (id : ProductRowId) (row : ProductRow) → slice_get feed.products id.0 ≡ Some row
@@ -204,17 +204,17 @@ module _ (feed : FeedRows) (product : ProductId) (rider : Option RiderId) where
   amount_is id row is = rw is refl
 
   cheapest : (kept : Option Priced1) → Tells (length feed.products) kept → IsCheapest kept
-  cheapest None none = by (least_open_row feed product rider) refl
+  cheapest None none = by (least_open_row feed product buyer) refl
     where
-      by : (o : Option ProductRowId) → least_open_row feed product rider ≡ o → IsCheapest None
+      by : (o : Option ProductRowId) → least_open_row feed product buyer ≡ o → IsCheapest None
       by None e = record { row = sym e; amount = tt }
       by (Some id) e =
-          let found = least_open_row-some feed product rider id e in
+          let found = least_open_row-some feed product buyer id e in
           let within = slice_get_within feed.products id.0 found.row found.is in
           absurd (none id.0 found.row within (found.is, found.opens))
   cheapest (Some priced) kept =
       record {
-        row = sym (least_open_row-found feed product rider priced.row (record {
+        row = sym (least_open_row-found feed product buyer priced.row (record {
           row = kept.row;
           is = kept.is;
           opens = kept.opens;
@@ -226,36 +226,36 @@ module _ (feed : FeedRows) (product : ProductId) (rider : Option RiderId) where
 
   -- and so of the products of the feed
   pub cheapest_of : (products : Products) → AreProductsOf feed products → (kept : Option Priced1)
-      → kept ≡ least_offer rider (offers_at products.by_product product.0) → IsCheapest kept
+      → kept ≡ least_offer buyer (offers_at products.by_product product.0) → IsCheapest kept
   cheapest_of products are kept is =
-      let all = is ∙ ap (least_offer rider) (are.of_product product.0) in
+      let all = is ∙ ap (least_offer buyer) (are.of_product product.0) in
       let n = length feed.products in
-      subst IsCheapest (sym all) (cheapest (least_offer rider (offers_below n)) (tells n))
+      subst IsCheapest (sym all) (cheapest (least_offer buyer (offers_below n)) (tells n))
 
 -- ---- the cheapest rows of all products
 
 -- one product more
-pub least_more : (rider : Option RiderId) (groups : List (List Offer)) (i : ℕ) (group : List Offer)
+pub least_more : (buyer : Buyer) (groups : List (List Offer)) (i : ℕ) (group : List Offer)
     (before now : List (Option Priced1)) (least : Option Priced1) → slice_get groups i ≡ Some group
-    → before ≡ map (least_offer rider) (take i groups) → least ≡ least_offer rider group → now ≡ before ++ least ∷ []
-    → now ≡ map (least_offer rider) (take (i + 1) groups)
-least_more rider groups i group before now least got was is made =
+    → before ≡ map (least_offer buyer) (take i groups) → least ≡ least_offer buyer group → now ≡ before ++ least ∷ []
+    → now ≡ map (least_offer buyer) (take (i + 1) groups)
+least_more buyer groups i group before now least got was is made =
     let lt = slice_get_within groups i group got in
-    let here = is ∙ ap (least_offer rider) (sym (get_or_from_slice_get groups i group group got)) in
+    let here = is ∙ ap (least_offer buyer) (sym (get_or_from_slice_get groups i group group got)) in
     made ∙ ap (λ xs. xs ++ least ∷ []) was
-    ∙ ap (λ x. map (least_offer rider) (take i groups) ++ x ∷ []) here
-    ∙ sym (map_more (least_offer rider) groups i group lt)
+    ∙ ap (λ x. map (least_offer buyer) (take i groups) ++ x ∷ []) here
+    ∙ sym (map_more (least_offer buyer) groups i group lt)
 
 -- each is the cheapest of its product
-pub least_rows_are : (feed : FeedRows) (products : Products) (rider : Option RiderId) (rows : LeastRows)
-    → AreProductsOf feed products → rows.rows.items ≡ map (least_offer rider) products.by_product
-    → AreLeastRowsOf feed rider rows
-least_rows_are feed products rider rows are made =
+pub least_rows_are : (feed : FeedRows) (products : Products) (buyer : Buyer) (rows : LeastRows)
+    → AreProductsOf feed products → rows.rows.items ≡ map (least_offer buyer) products.by_product
+    → AreLeastRowsOf feed buyer rows
+least_rows_are feed products buyer rows are made =
     record { row = λ product. (each product).row; amount = λ product. (each product).amount }
   where
-    each : (product : ProductId) → IsCheapest feed product rider (least_at rows.rows.items product.0)
+    each : (product : ProductId) → IsCheapest feed product buyer (least_at rows.rows.items product.0)
     each product =
-        cheapest_of feed product rider products are (least_at rows.rows.items product.0)
+        cheapest_of feed product buyer products are (least_at rows.rows.items product.0)
         (ap (λ xs. least_at xs product.0) made
-        ∙ get_or-map (least_offer rider) products.by_product product.0 []
-        ∙ ap (least_offer rider) (sym (unwrap_or-slice_get products.by_product product.0 [])))
+        ∙ get_or-map (least_offer buyer) products.by_product product.0 []
+        ∙ ap (least_offer buyer) (sym (unwrap_or-slice_get products.by_product product.0 [])))

@@ -8,7 +8,7 @@ use Rattle.std.proofs.lemmas.List.{map-append}
 use Rattle.std.proofs.lemmas.List.Elements.{filter-append}
 use Rattle.transit_base.specs.declared.numbers.ProductId.{ProductId}
 use Rattle.transit_base.specs.declared.numbers.ProductRowId.{ProductRowId}
-use Rattle.transit_base.specs.declared.numbers.RiderId.{RiderId}
+use Rattle.feed_rows.specs.declared.journeys.Buyer.{Buyer}
 use Rattle.feed_rows.specs.declared.rows.ProductRow.{ProductRow}
 use Rattle.feed_rows.specs.FeedRows.{FeedRows}
 use Rattle.feed_rows.specs.SoundFeed.{IsSoundFeed}
@@ -61,18 +61,18 @@ built feed inside rows n members products view sound same count each are decimal
 
 -- ---- the open rows
 
-opened-append : (rider : Option RiderId) (xs ys : List Offer)
-    → opened rider (xs ++ ys) ≡ opened rider xs ++ opened rider ys
-opened-append rider xs ys =
-    ap (map (λ o. o.row)) (filter-append (opens rider) xs ys)
-    ∙ map-append (λ o. o.row) (filter (opens rider) xs) (filter (opens rider) ys)
+opened-append : (buyer : Buyer) (xs ys : List Offer)
+    → opened buyer (xs ++ ys) ≡ opened buyer xs ++ opened buyer ys
+opened-append buyer xs ys =
+    ap (map (λ o. o.row)) (filter-append (opens buyer) xs ys)
+    ∙ map-append (λ o. o.row) (filter (opens buyer) xs) (filter (opens buyer) ys)
 
 -- the open rows are those of the feed
 pub opened_is : (feed : FeedRows) (products : Products) → AreProductsOf feed products
-    → (product : ProductId) (rider : Option RiderId)
-    → opened rider (offers_at products.by_product product.0) ≡ open_rows feed product rider
+    → (product : ProductId) (buyer : Buyer)
+    → opened buyer (offers_at products.by_product product.0) ≡ open_rows feed product buyer
 unfolding is_open
-opened_is feed products are product rider = ap (opened rider) (are.of_product product.0) ∙ each (length feed.products)
+opened_is feed products are product buyer = ap (opened buyer) (are.of_product product.0) ∙ each (length feed.products)
   where
     id_of : ℕ → ProductRowId
     id_of i = record { 0 = i }
@@ -82,17 +82,17 @@ opened_is feed products are product rider = ap (opened rider) (are.of_product pr
     own i o = if filled_and o (is_of product.0) then offer_at feed.products i ∷ [] else []
 
     open_one : ℕ → Option ProductRow → List ProductRowId
-    open_one i o = if filled_and o (is_open product rider) then id_of i ∷ [] else []
+    open_one i o = if filled_and o (is_open product buyer) then id_of i ∷ [] else []
 
-    here : (i : ℕ) (o : Option ProductRow) → slice_get feed.products i ≡ o → opened rider (own i o) ≡ open_one i o
+    here : (i : ℕ) (o : Option ProductRow) → slice_get feed.products i ≡ o → opened buyer (own i o) ≡ open_one i o
     here i None got = refl
-    here i (Some row) got = by (is_of product.0 row) refl (opens rider (offer i row)) refl
+    here i (Some row) got = by (is_of product.0 row) refl (opens buyer (offer i row)) refl
       where
         at : offer_at feed.products i ≡ offer i row
         at = rw got refl
 
-        by : (b : Bool) → is_of product.0 row ≡ b → (d : Bool) → opens rider (offer i row) ≡ d
-            → opened rider (own i (Some row)) ≡ open_one i (Some row)
+        by : (b : Bool) → is_of product.0 row ≡ b → (d : Bool) → opens buyer (offer i row) ≡ d
+            → opened buyer (own i (Some row)) ≡ open_one i (Some row)
         by false e d f = rw e refl
         by true e true f = rw (e, at, f) refl
         by true e false f = rw (e, at, f) refl
@@ -101,11 +101,11 @@ opened_is feed products are product rider = ap (opened rider) (are.of_product pr
     among n = picks_below n (λ i. at_and feed.products i (is_of product.0)) (offer_at feed.products)
 
     rows : ℕ → List ProductRowId
-    rows n = picks_below n (λ i. at_and feed.products i (is_open product rider)) id_of
+    rows n = picks_below n (λ i. at_and feed.products i (is_open product buyer)) id_of
 
-    each : (n : ℕ) → opened rider (among n) ≡ rows n
+    each : (n : ℕ) → opened buyer (among n) ≡ rows n
     each zero = refl
     each (suc n) =
-        opened-append rider (among n) (own n (slice_get feed.products n))
-        ∙ ap (λ xs. xs ++ opened rider (own n (slice_get feed.products n))) (each n)
+        opened-append buyer (among n) (own n (slice_get feed.products n))
+        ∙ ap (λ xs. xs ++ opened buyer (own n (slice_get feed.products n))) (each n)
         ∙ ap (λ xs. rows n ++ xs) (here n (slice_get feed.products n) refl)

@@ -1,7 +1,7 @@
--- What holds of the products that were built from a feed, and of the cheapest rows for a rider.
+-- What holds of the products that were built from a feed, and of the cheapest rows for a buyer.
 use Rattle.std.specs.Prelude.{◌≡◌, ℕ, List, Option, None, option_map, slice_index_or, IfSome}
 use Rattle.transit_base.specs.declared.numbers.ProductId.{ProductId}
-use Rattle.transit_base.specs.declared.numbers.RiderId.{RiderId}
+use Rattle.feed_rows.specs.declared.journeys.Buyer.{Buyer}
 use Rattle.feed_rows.specs.FeedRows.{FeedRows}
 use Rattle.feed_rows.specs.OpenRows.{least_open_row}
 use Rattle.feed_rows.specs.FareSums.{amount_of}
@@ -21,9 +21,9 @@ pub record AreProductsOf (feed : FeedRows) (products : Products) : Type 0 where
 abbrev pub least_at : List (Option Priced1) → ℕ → Option Priced1
 least_at rows product = slice_index_or rows product None
 
--- the rows are the cheapest for this rider
-pub record AreLeastRowsOf (feed : FeedRows) (rider : Option RiderId) (rows : LeastRows) : Type 0 where
+-- the rows are the cheapest for this buyer
+pub record AreLeastRowsOf (feed : FeedRows) (buyer : Buyer) (rows : LeastRows) : Type 0 where
   pub row : (product : ProductId)
-      → option_map (λ p. p.row) (least_at rows.rows.items product.0) ≡ least_open_row feed product rider
+      → option_map (λ p. p.row) (least_at rows.rows.items product.0) ≡ least_open_row feed product buyer
   pub amount : (product : ProductId)
       → IfSome (least_at rows.rows.items product.0) (λ p. p.amount.0 ≡ amount_of feed p.row)

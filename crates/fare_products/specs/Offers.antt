@@ -3,7 +3,7 @@ use Rattle.std.specs.Prelude.{ℕ, Bool, ◌&&◌, ◌==◌, if◌then◌else◌
 use Rattle.std.specs.Prelude.{pos, int_lt, Option, Some, None, unwrap_or}
 use Rattle.std.specs.Option.{option_map_or}
 use Rattle.transit_base.specs.declared.numbers.ProductRowId.{ProductRowId}
-use Rattle.transit_base.specs.declared.numbers.RiderId.{RiderId}
+use Rattle.feed_rows.specs.declared.journeys.Buyer.{Buyer}
 use Rattle.feed_rows.specs.declared.rows.ProductRow.{ProductRow}
 use Rattle.plain_laws.specs.Plain.{empty_or, filled_and}
 use Rattle.fare_products.specs.declared.Priced1.{Priced1}
@@ -27,21 +27,21 @@ is_of product row = row.product.0 == product
 abbrev pub offers_at : List (List Offer) → ℕ → List Offer
 offers_at groups product = unwrap_or (slice_get groups product) []
 
--- the row is open to the rider
-abbrev pub opens : Option RiderId → Offer → Bool
-opens rider row = empty_or row.rider (λ category. filled_and rider (λ r. r.0 == category.0))
+-- the row is open to the buyer
+abbrev pub opens : Buyer → Offer → Bool
+opens buyer row = empty_or row.rider (λ category. filled_and buyer.rider (λ r. r.0 == category.0))
 
--- the rows that are open to the rider
-abbrev pub opened : Option RiderId → List Offer → List ProductRowId
-opened rider offers = map (λ o. o.row) (filter (opens rider) offers)
+-- the rows that are open to the buyer
+abbrev pub opened : Buyer → List Offer → List ProductRowId
+opened buyer offers = map (λ o. o.row) (filter (opens buyer) offers)
 
 -- the row, where it is open and cheaper than the least so far; else this
-abbrev pub cheaper : Option RiderId → Option Priced1 → Offer → Option Priced1
-cheaper rider least o =
-    if opens rider o && empty_or least (λ p. int_lt o.amount.0 p.amount.0) then
+abbrev pub cheaper : Buyer → Option Priced1 → Offer → Option Priced1
+cheaper buyer least o =
+    if opens buyer o && empty_or least (λ p. int_lt o.amount.0 p.amount.0) then
     Some (record { row = o.row; amount = o.amount })
     else least
 
 -- the first of the open rows of least amount
-abbrev pub least_offer : Option RiderId → List Offer → Option Priced1
-least_offer rider offers = fold (cheaper rider) None offers
+abbrev pub least_offer : Buyer → List Offer → Option Priced1
+least_offer buyer offers = fold (cheaper buyer) None offers

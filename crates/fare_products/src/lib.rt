@@ -1,4 +1,4 @@
-//! The fare products of a feed: which of their rows are open to a rider, and the cheapest of these. Which rider a query
+//! The fare products of a feed: which of their rows are open to a buyer, and the cheapest of these. The rider category that a query
 //! is for, and amounts as text.
 #![tactic(auto)]
 
@@ -19,10 +19,10 @@ pub use crate::money::MoneyText;
 use crate::money::money_text;
 use crate::offers::{Offer, grouped_offers, least_offer};
 pub use crate::riders::chosen_rider;
-use feed_rows::{Feed, RowList};
+use feed_rows::{Buyer, Feed, RowList};
 use item_groups::Groups;
 use std::alloc::{AllocError, Global};
-use transit_base::{Money, ProductId, ProductRowId, RiderId};
+use transit_base::{Money, ProductId, ProductRowId};
 
 /// A row of a product, and its amount.
 #[derive(Clone, Copy)]
@@ -52,9 +52,9 @@ impl Drop for Products {
     }
 }
 
-/// The cheapest row of each product for one rider.
+/// The cheapest row of each product for one buyer.
 pub struct LeastRows {
-    /// By product; none where no row is open to the rider.
+    /// By product; none where no row is open to the buyer.
     rows: Vec<Option<Priced1>>,
 }
 
@@ -81,7 +81,7 @@ impl Products {
         })
     }
 
-    /// The rows of the product that are open to the rider, in file order: their category is empty or the rider's. A
+    /// The rows of the product that are open to the buyer, in file order: their category is empty or the buyer's. A
     /// number that is no product's has none.
     ///
     /// # Errors
@@ -90,39 +90,39 @@ impl Products {
         &self,
         alloc: Global,
         product: ProductId,
-        rider: Option<RiderId>,
+        buyer: Buyer,
     ) -> Result<RowList, AllocError>
-        ensures { IfOk result (λ rows. (feed : FeedRows) → AreProductsOf feed self.now → rows ≡ open_rows feed product rider) }
+        ensures { IfOk result (λ rows. (feed : FeedRows) → AreProductsOf feed self.now → rows ≡ open_rows feed product buyer) }
     {
         let mut rows = RowList::empty(alloc);
         for offer in self.offers(product) {
-            if offer.opens(rider) {
+            if offer.opens(buyer) {
                 rows.push(offer.row)?;
             }
         }
         Ok(rows)
     }
 
-    /// The first in file order of the product's rows of least amount that are open to the rider; none where no row is
+    /// The first in file order of the product's rows of least amount that are open to the buyer; none where no row is
     /// open. Only the product's own rows are looked at.
-    pub fn least(&self, product: ProductId, rider: Option<RiderId>) -> Option<Priced1>
-        ensures row { (feed : FeedRows) → AreProductsOf feed self.now → option_map (λ p. p.row) result ≡ least_open_row feed product rider }
+    pub fn least(&self, product: ProductId, buyer: Buyer) -> Option<Priced1>
+        ensures row { (feed : FeedRows) → AreProductsOf feed self.now → option_map (λ p. p.row) result ≡ least_open_row feed product buyer }
         ensures amount { (feed : FeedRows) → AreProductsOf feed self.now → IfSome result (λ p. p.amount.0 ≡ amount_of feed p.row) }
     {
-        least_offer(self.offers(product), rider)
+        least_offer(self.offers(product), buyer)
     }
 
-    /// What [`least`](Products::least) gives for each product, for a rider who asks often.
+    /// What [`least`](Products::least) gives for each product, for a buyer who asks often.
     ///
     /// # Errors
     /// Want of memory.
-    pub fn least_rows(&self, alloc: Global, rider: Option<RiderId>) -> Result<LeastRows, AllocError>
-        ensures { IfOk result (λ rows. (feed : FeedRows) → AreProductsOf feed self.now → AreLeastRowsOf feed rider rows) }
+    pub fn least_rows(&self, alloc: Global, buyer: Buyer) -> Result<LeastRows, AllocError>
+        ensures { IfOk result (λ rows. (feed : FeedRows) → AreProductsOf feed self.now → AreLeastRowsOf feed buyer rows) }
     {
         let count = self.by_product.count();
         let mut rows = Vec::with_capacity(alloc, count)?;
         for product in 0..count {
-            rows.push(least_offer(self.by_product.group(product), rider))?;
+            rows.push(least_offer(self.by_product.group(product), buyer))?;
         }
         Ok(LeastRows { rows })
     }
@@ -143,10 +143,10 @@ impl Products {
 }
 
 impl LeastRows {
-    /// The cheapest row of the product for the rider, as [`least`](Products::least) gives it, by one look-up.
+    /// The cheapest row of the product for the buyer, as [`least`](Products::least) gives it, by one look-up.
     pub fn get(&self, product: ProductId) -> Option<Priced1>
-        ensures row { (feed : FeedRows) → (rider : Option RiderId) → AreLeastRowsOf feed rider self.now → option_map (λ p. p.row) result ≡ least_open_row feed product rider }
-        ensures amount { (feed : FeedRows) → (rider : Option RiderId) → AreLeastRowsOf feed rider self.now → IfSome result (λ p. p.amount.0 ≡ amount_of feed p.row) }
+        ensures row { (feed : FeedRows) → (buyer : Buyer) → AreLeastRowsOf feed buyer self.now → option_map (λ p. p.row) result ≡ least_open_row feed product buyer }
+        ensures amount { (feed : FeedRows) → (buyer : Buyer) → AreLeastRowsOf feed buyer self.now → IfSome result (λ p. p.amount.0 ≡ amount_of feed p.row) }
     {
         match self.rows.get(product.0 as usize) {
             Some(least) => *least,

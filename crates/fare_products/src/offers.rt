@@ -5,7 +5,7 @@ ghost use Rattle.item_groups.specs.Groups.{group_of};
 ghost use Rattle.fare_products.specs.Offers.{offer, offer_at, is_of, opens, cheaper, least_offer};
 
 use crate::Priced1;
-use feed_rows::ProductRow;
+use feed_rows::{Buyer, ProductRow};
 use item_groups::Grouped;
 use std::alloc::{AllocError, Global};
 use transit_base::{Money, ProductRowId, RiderId};
@@ -19,12 +19,12 @@ pub struct Offer {
 }
 
 impl Offer {
-    /// Whether the row is open to the rider: its category is empty or the rider's.
-    pub fn opens(&self, rider: Option<RiderId>) -> bool
-        ensures { result ≡ opens rider self.now }
+    /// Whether the row is open to the buyer: its category is empty or the buyer's.
+    pub fn opens(&self, buyer: Buyer) -> bool
+        ensures { result ≡ opens buyer self.now }
     {
         match self.rider {
-            Some(category) => is_rider(rider, category),
+            Some(category) => is_rider(buyer.rider, category),
             None => true,
         }
     }
@@ -74,22 +74,22 @@ fn push_offer(
     Ok(())
 }
 
-/// The first of the rows of least amount that are open to the rider.
-pub fn least_offer(offers: &[Offer], rider: Option<RiderId>) -> Option<Priced1>
-    ensures { result ≡ least_offer rider offers.now }
+/// The first of the rows of least amount that are open to the buyer.
+pub fn least_offer(offers: &[Offer], buyer: Buyer) -> Option<Priced1>
+    ensures { result ≡ least_offer buyer offers.now }
 {
     let mut least = None;
     for offer in offers {
-        least = cheaper(least, offer, rider);
+        least = cheaper(least, offer, buyer);
     }
     least
 }
 
-/// The row, where it is open to the rider and cheaper than the least so far; else this.
-fn cheaper(least: Option<Priced1>, offer: &Offer, rider: Option<RiderId>) -> Option<Priced1>
-    ensures { result ≡ cheaper rider least offer.now }
+/// The row, where it is open to the buyer and cheaper than the least so far; else this.
+fn cheaper(least: Option<Priced1>, offer: &Offer, buyer: Buyer) -> Option<Priced1>
+    ensures { result ≡ cheaper buyer least offer.now }
 {
-    if offer.opens(rider) && is_cheaper(offer.amount, least) {
+    if offer.opens(buyer) && is_cheaper(offer.amount, least) {
         Some(Priced1 {
             row: offer.row,
             amount: offer.amount,

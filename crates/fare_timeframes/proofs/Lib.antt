@@ -1,2 +1,3 @@
+pub mod CutLaws
 pub mod FrameLaws
 pub mod DayLaws

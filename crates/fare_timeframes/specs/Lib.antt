@@ -1,3 +1,4 @@
+pub mod Cuts
 pub mod FrameRows
 pub mod FrameDays
 pub mod BlankLegs

@@ -4,6 +4,7 @@
 ghost use Rattle.std.specs.Prelude.{◌≡◌, filter, map, nat_le, IfOk, IfSome, OnOk};
 ghost use Rattle.std.specs.List.{list_any};
 ghost use Rattle.std.specs.List.Sorted.{IsNonDecreasingBy};
+ghost use Rattle.feed_calendar.specs.BuiltCalendar.{IsCalendarOf};
 ghost use Rattle.feed_rows.specs.FeedRows.{FeedRows};
 ghost use Rattle.feed_rows.specs.Legs.{holds_at, frames_at, leg_facts};
 ghost use Rattle.fare_areas.specs.AreaRows.{DoRise};
@@ -12,9 +13,12 @@ ghost use Rattle.fare_timeframes.specs.FrameRows.{by_frame, lasts_on, AreByStart
 ghost use Rattle.fare_timeframes.specs.FrameDays.{IsDayOf};
 ghost use Rattle.fare_timeframes.specs.BuiltTimeframes.{AreTimeframesOf};
 ghost use Rattle.fare_timeframes.specs.BlankLegs.{blank_leg};
+ghost use Rattle.fare_timeframes.specs.Cuts.{AreLike};
 
+mod cuts;
 mod days;
 
+use crate::cuts::{cuts_of, moment_by};
 use crate::days::{FrameDay, spans_on};
 use fare_areas::Areas;
 use feed_calendar::Calendar;
@@ -23,47 +27,59 @@ use item_groups::{Grouped, Groups};
 use std::alloc::{AllocError, Global};
 use transit_base::{AreaId, Day, FrameId, Moment};
 
-/// The timeframe groups of a feed, with its calendar and its areas.
+/// The timeframe groups of a feed, with its areas, by a calendar that is lent.
 ///
 /// What the calls answer is about the feed that the value was built from.
-pub struct Timeframes {
-    calendar: Calendar,
+pub struct Timeframes<'c> {
+    calendar: &'c Calendar,
     areas: Areas,
     /// How many timeframe groups there are.
     count: u32,
     /// The rows of each timeframe group, by start.
     rows: Groups<TimeframeRow>,
+    /// The times of day at which a timeframe starts or ends.
+    cuts: Vec<u32>,
     /// Days of which it was asked once which services are active.
     days: Vec<FrameDay>,
 }
 
 // Written out, so that what holds one needn't look into it to let go of it.
-impl Drop for Timeframes {
+impl<'c> Drop for Timeframes<'c> {
     fn drop(self) {
         let Timeframes {
             calendar: _,
             areas: _,
             count: _,
             rows: _,
+            cuts: _,
             days: _,
         } = self;
     }
 }
 
-impl Timeframes {
-    /// The timeframe groups of the feed.
+impl<'c> Timeframes<'c> {
+    /// The timeframe groups of the feed, by its calendar.
     ///
     /// # Errors
     /// Want of memory.
-    pub fn build(alloc: Global, feed: &Feed) -> Result<Timeframes, AllocError>
+    pub fn build(
+        alloc: Global,
+        feed: &Feed,
+        calendar: &'c Calendar,
+    ) -> Result<Timeframes<'c>, AllocError>
+        requires { IsCalendarOf feed.now calendar.now }
         ensures { IfOk result (λ timeframes. AreTimeframesOf feed.now timeframes) }
     {
         let count = feed.frame_names.items().len() as u32;
+        let areas = Areas::build(alloc, feed)?;
+        let rows = rows_by_frame(alloc, feed.timeframes.items(), count)?;
+        let cuts = cuts_of(alloc, feed)?;
         Ok(Timeframes {
-            calendar: Calendar::build(alloc, feed)?,
-            areas: Areas::build(alloc, feed)?,
+            calendar,
+            areas,
             count,
-            rows: rows_by_frame(alloc, feed.timeframes.items(), count)?,
+            rows,
+            cuts,
             days: Vec::new(alloc),
         })
     }
@@ -76,12 +92,14 @@ impl Timeframes {
     pub fn between(
         alloc: Global,
         feed: &Feed,
+        calendar: &'c Calendar,
         first: Moment,
         last: Moment,
-    ) -> Result<Timeframes, AllocError>
+    ) -> Result<Timeframes<'c>, AllocError>
+        requires { IsCalendarOf feed.now calendar.now }
         ensures { IfOk result (λ timeframes. AreTimeframesOf feed.now timeframes) }
     {
-        let mut timeframes = Timeframes::build(alloc, feed)?;
+        let mut timeframes = Timeframes::build(alloc, feed, calendar)?;
         for day in first.day().0..=last.day().0 {
             timeframes.keep(alloc, Day(day))?;
         }
@@ -103,7 +121,7 @@ impl Timeframes {
     {
         let mut spans = Groups::empty(alloc);
         for number in 0..self.rows.count() {
-            let group = spans_on(alloc, &self.calendar, self.rows.get(number), day)?;
+            let group = spans_on(alloc, self.calendar, self.rows.get(number), day)?;
             spans.push(group.as_slice())?;
         }
         Ok(FrameDay { day, spans })
@@ -140,6 +158,26 @@ impl Timeframes {
                 let rows = started_by(self.rows.get(frame.0 as usize), time);
                 self.has_active(rows, at.day(), time)
             }
+        }
+    }
+
+    /// A moment at which the same timeframe groups hold: many moments have the same.
+    pub fn like_moment(&self, at: Moment) -> Moment
+        ensures { (feed : FeedRows) → AreTimeframesOf feed self.now → frames_at feed result ≡ frames_at feed at }
+    {
+        moment_by(&self.cuts, at)
+    }
+
+    /// A ride in which fare rules see the same, but that they count its seconds otherwise: many rides have the same.
+    pub fn like_ride(&self, ride: &RideFacts) -> RideFacts
+        ensures { (feed : FeedRows) → AreTimeframesOf feed self.now → AreLike feed result ride.now }
+    {
+        RideFacts {
+            from: ride.from,
+            to: ride.to,
+            network: ride.network,
+            departure: self.like_moment(ride.departure),
+            arrival: self.like_moment(ride.arrival),
         }
     }
 

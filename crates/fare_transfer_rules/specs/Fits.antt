@@ -1,6 +1,5 @@
 -- Whether a row is selected for a change, where the groups that rows name are marked.
-use Rattle.std.specs.Prelude.{◌≡◌, ℕ, Bool, not, ◌&&◌, ◌||◌, ◌==◌, nat_le, is_some, List, map, filter, Option, Some, None, slice_get}
-use Rattle.std.specs.List.{list_any, list_all}
+use Rattle.std.specs.Prelude.{ℕ, Bool, not, ◌&&◌, ◌||◌, ◌==◌, nat_le, List, map, filter, Option, Some, None, slice_get}
 use Rattle.transit_base.specs.declared.numbers.LegGroupId.{LegGroupId}
 use Rattle.transit_base.specs.declared.numbers.XferId.{XferId}
 use Rattle.feed_rows.specs.declared.fares.TransferFacts.{TransferFacts}
@@ -11,7 +10,7 @@ use Rattle.fare_transfer_rules.specs.declared.XferRules.{XferRules}
 use Rattle.fare_transfer_rules.specs.declared.groups.ClassedRow.{ClassedRow}
 use Rattle.number_marks.specs.Marks.{is_marked}
 use Rattle.fare_transfer_rules.specs.Classes.{class_of, leads_to, rows_at}
-use Rattle.fare_transfer_rules.specs.Counts.{is_within}
+use Rattle.fare_transfer_rules.specs.Counts.{IsLeastCount, is_within}
 
 -- the leg group of a row is that of a leg
 abbrev pub group_fits : List Bool → Option LegGroupId → LegGroupId → Bool
@@ -61,9 +60,6 @@ pair_rows rules from to =
 abbrev pub rows_for : XferRules → TransferFacts → List ClassedRow
 rows_for rules change = pair_rows rules change.from change.to
 
--- the least count among these rows: no count is above it that none of these rows that fit is below, and there is one
--- exactly where one of them fits
-pub record AreLeast (rules : XferRules) (change : TransferFacts) (among : List ClassedRow) (least : Option (Option ℕ)) : Type 0 where
-  pub within : (count : Option ℕ) →
-      is_within least count ≡ list_all (λ (r : ClassedRow). not_above_at rules change count r.row) among
-  pub some : is_some least ≡ list_any (λ (r : ClassedRow). fits_at rules change r.row) among
+-- the least count among those of these rows that fit
+abbrev pub AreLeast : XferRules → TransferFacts → List ClassedRow → Option (Option ℕ) → Type 0
+AreLeast rules change = IsLeastCount (not_above_at rules change) (fits_at rules change)

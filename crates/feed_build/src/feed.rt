@@ -20,14 +20,14 @@ use std::marker::Model;
 /// The tables of a feed whose files have no fault by themselves, with their rows by id and with the names that have no rows of
 /// their own. Contracts see it as the tables.
 #[derive(Drop)]
-pub struct Source<'t, C: CallTable> {
+pub struct TableSource<'t, C: CallTable> {
     pub alloc: Global,
     pub tables: &'t Tables<'t, C>,
     pub ids: &'t Ids<'t, C>,
     pub names: &'t Names<'t>,
 }
 
-impl<'t, C: CallTable> Model for Source<'t, C> {
+impl<'t, C: CallTable> Model for TableSource<'t, C> {
     ghost use Rattle.feed_faults.specs.FeedTables.{FeedTables};
     ghost use Rattle.feed_build.specs.TableNames.{IsSource};
 
@@ -39,13 +39,13 @@ impl<'t, C: CallTable> Model for Source<'t, C> {
 }
 
 /// The number of the earliest row that has the id in a column; that after the last row where no row has it.
-pub fn row_number<C: CallTable>(source: &Source<C>, column: IdColumn, id: &[u8]) -> u32
+pub fn row_number<C: CallTable>(source: &TableSource<C>, column: IdColumn, id: &[u8]) -> u32
     ensures { result ≡ row_number (table_in source.now (id_place column).0) (id_place column).1 id.now }
 {
     source.ids.get(column).number(id)
 }
 
-impl<'t, C: CallTable> Source<'t, C> {
+impl<'t, C: CallTable> TableSource<'t, C> {
     // The rows of a file, in order.
     fn rows_of<R: FileRow>(&self, file: FileName) -> Result<ItemList<R>, AllocError>
         requires file { file ≡ R.file }
@@ -160,7 +160,7 @@ pub fn feed_of_tables<C: CallTable>(
     ensures { IfOk result (λ feed. feed ≡ rows_of_tables tables.now) }
 {
     let names = Names::of(alloc, tables)?;
-    let source = Source {
+    let source = TableSource {
         alloc,
         tables,
         ids,

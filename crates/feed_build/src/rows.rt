@@ -8,7 +8,7 @@ ghost use Rattle.feed_faults.specs.FeedTables.{table_in};
 ghost use Rattle.feed_faults.specs.FieldValues.{nat_of};
 ghost use Rattle.feed_faults.specs.AcceptedFeed.{if_filled, stop_row, network_of_route, route_row, trip_row, service_row, exception_row, frequency_row, link_row, area_row, stop_area_row, timeframe_row, rider_row, medium_row, product_row, leg_rule_row, transfer_rule_row, feed_currency, feed_decimals};
 
-use crate::feed::{Source, row_number};
+use crate::feed::{TableSource, row_number};
 use crate::names::name_number;
 use feed_faults::IdColumn;
 use feed_files::{ColumnName, FileName};
@@ -72,7 +72,11 @@ pub trait FileRow: Drop {
     ///
     /// # Errors
     /// Want of memory, for a copy.
-    fn of<C: CallTable>(source: &Source<C>, table: &Table, row: u32) -> Result<Self, AllocError>
+    fn of<C: CallTable>(
+        source: &TableSource<C>,
+        table: &Table,
+        row: u32,
+    ) -> Result<Self, AllocError>
         requires table { table.now ≡ table_in source.now file }
         requires within { row < row_count table.now }
         ensures row { IfOk result (λ made. made ≡ row_in source.now row) }
@@ -88,7 +92,11 @@ impl FileRow for StopRow {
     ghost copies = { true };
 
     #[tactic(auto, unfolding(feed_faults::specs::AcceptedFeed::stop_row, feed_faults::specs::AcceptedFeed::accepted_parent), using(feed_soundness::proofs::IdColumns::stop_id, crate::proofs::ValueLaws::values))]
-    fn of<C: CallTable>(source: &Source<C>, table: &Table, row: u32) -> Result<Self, AllocError> {
+    fn of<C: CallTable>(
+        source: &TableSource<C>,
+        table: &Table,
+        row: u32,
+    ) -> Result<Self, AllocError> {
         let &[_, kind, _] = source.tables.numbers::<3>(FileName::Stops, row);
         let kind = nat_of(kind) as u8;
         let parent = table.field(row, ColumnName::ParentStation);
@@ -113,7 +121,11 @@ impl FileRow for RouteRow {
     ghost copies = { true };
 
     #[tactic(auto, unfolding(feed_faults::specs::AcceptedFeed::route_row), using(feed_soundness::proofs::IdColumns::route_id))]
-    fn of<C: CallTable>(source: &Source<C>, table: &Table, row: u32) -> Result<Self, AllocError> {
+    fn of<C: CallTable>(
+        source: &TableSource<C>,
+        table: &Table,
+        row: u32,
+    ) -> Result<Self, AllocError> {
         let names = source.names;
         let network = source.network_of_route(row);
         Ok(RouteRow {
@@ -132,7 +144,11 @@ impl FileRow for TripRow {
     ghost copies = { true };
 
     #[tactic(auto, unfolding(feed_faults::specs::AcceptedFeed::trip_row), using(feed_soundness::proofs::IdColumns::trip_id))]
-    fn of<C: CallTable>(source: &Source<C>, table: &Table, row: u32) -> Result<Self, AllocError> {
+    fn of<C: CallTable>(
+        source: &TableSource<C>,
+        table: &Table,
+        row: u32,
+    ) -> Result<Self, AllocError> {
         let route = table.field(row, ColumnName::RouteId);
         let service = table.field(row, ColumnName::ServiceId);
         Ok(TripRow {
@@ -150,7 +166,11 @@ impl FileRow for ServiceRow {
     ghost row_in = { service_row };
 
     #[tactic(auto, unfolding(feed_faults::specs::AcceptedFeed::service_row, feed_faults::specs::FieldValues::int_or_zero, feed_faults::specs::FieldValues::day_or_zero))]
-    fn of<C: CallTable>(source: &Source<C>, table: &Table, row: u32) -> Result<Self, AllocError> {
+    fn of<C: CallTable>(
+        source: &TableSource<C>,
+        table: &Table,
+        row: u32,
+    ) -> Result<Self, AllocError> {
         let &[
             _,
             monday,
@@ -188,7 +208,11 @@ impl FileRow for ExceptionRow {
     ghost row_in = { exception_row };
 
     #[tactic(auto, unfolding(feed_faults::specs::AcceptedFeed::exception_row, feed_faults::specs::FieldValues::int_or_zero, feed_faults::specs::FieldValues::day_or_zero))]
-    fn of<C: CallTable>(source: &Source<C>, table: &Table, row: u32) -> Result<Self, AllocError> {
+    fn of<C: CallTable>(
+        source: &TableSource<C>,
+        table: &Table,
+        row: u32,
+    ) -> Result<Self, AllocError> {
         let &[_, date, kind] = source.tables.numbers::<3>(FileName::CalendarDates, row);
         let service = table.field(row, ColumnName::ServiceId);
         Ok(ExceptionRow {
@@ -206,7 +230,11 @@ impl FileRow for FrequencyRow {
     ghost row_in = { frequency_row };
 
     #[tactic(auto, unfolding(feed_faults::specs::AcceptedFeed::frequency_row), using(crate::proofs::ValueLaws::values))]
-    fn of<C: CallTable>(source: &Source<C>, table: &Table, row: u32) -> Result<Self, AllocError> {
+    fn of<C: CallTable>(
+        source: &TableSource<C>,
+        table: &Table,
+        row: u32,
+    ) -> Result<Self, AllocError> {
         let &[_, start, end, headway, _] = source.tables.numbers::<5>(FileName::Frequencies, row);
         let trip = table.field(row, ColumnName::TripId);
         Ok(FrequencyRow {
@@ -227,7 +255,11 @@ impl FileRow for AreaRow {
     ghost copies = { true };
 
     #[tactic(auto, unfolding(feed_faults::specs::AcceptedFeed::area_row), using(crate::proofs::IdLaws::area_ids))]
-    fn of<C: CallTable>(source: &Source<C>, table: &Table, row: u32) -> Result<Self, AllocError> {
+    fn of<C: CallTable>(
+        source: &TableSource<C>,
+        table: &Table,
+        row: u32,
+    ) -> Result<Self, AllocError> {
         Ok(AreaRow {
             id: Id::copy_of(source.alloc, table.field(row, ColumnName::AreaId))?,
         })
@@ -241,7 +273,11 @@ impl FileRow for StopAreaRow {
     ghost row_in = { stop_area_row };
 
     #[tactic(auto, unfolding(feed_faults::specs::AcceptedFeed::stop_area_row))]
-    fn of<C: CallTable>(source: &Source<C>, table: &Table, row: u32) -> Result<Self, AllocError> {
+    fn of<C: CallTable>(
+        source: &TableSource<C>,
+        table: &Table,
+        row: u32,
+    ) -> Result<Self, AllocError> {
         Ok(StopAreaRow {
             area: AreaId(row_number(source, IdColumn::Area, table.field(row, ColumnName::AreaId))),
             stop: StopId(row_number(source, IdColumn::Stop, table.field(row, ColumnName::StopId))),
@@ -256,7 +292,11 @@ impl FileRow for TimeframeRow {
     ghost row_in = { timeframe_row };
 
     #[tactic(auto, unfolding(feed_faults::specs::AcceptedFeed::timeframe_row), using(crate::proofs::ValueLaws::values))]
-    fn of<C: CallTable>(source: &Source<C>, table: &Table, row: u32) -> Result<Self, AllocError> {
+    fn of<C: CallTable>(
+        source: &TableSource<C>,
+        table: &Table,
+        row: u32,
+    ) -> Result<Self, AllocError> {
         let &[_, start, end, _] = source.tables.numbers::<4>(FileName::Timeframes, row);
         let group = table.field(row, ColumnName::TimeframeGroupId);
         let service = table.field(row, ColumnName::ServiceId);
@@ -278,7 +318,11 @@ impl FileRow for RiderRow {
     ghost copies = { true };
 
     #[tactic(auto, unfolding(feed_faults::specs::AcceptedFeed::rider_row), using(crate::proofs::IdLaws::rider_ids, crate::proofs::ValueLaws::values))]
-    fn of<C: CallTable>(source: &Source<C>, table: &Table, row: u32) -> Result<Self, AllocError> {
+    fn of<C: CallTable>(
+        source: &TableSource<C>,
+        table: &Table,
+        row: u32,
+    ) -> Result<Self, AllocError> {
         let &[_, default] = source.tables.numbers::<2>(FileName::RiderCategories, row);
         Ok(RiderRow {
             id: Id::copy_of(source.alloc, table.field(row, ColumnName::RiderCategoryId))?,
@@ -296,7 +340,11 @@ impl FileRow for MediumRow {
     ghost copies = { true };
 
     #[tactic(auto, unfolding(feed_faults::specs::AcceptedFeed::medium_row), using(crate::proofs::IdLaws::medium_ids))]
-    fn of<C: CallTable>(source: &Source<C>, table: &Table, row: u32) -> Result<Self, AllocError> {
+    fn of<C: CallTable>(
+        source: &TableSource<C>,
+        table: &Table,
+        row: u32,
+    ) -> Result<Self, AllocError> {
         Ok(MediumRow {
             id: Id::copy_of(source.alloc, table.field(row, ColumnName::FareMediaId))?,
         })
@@ -310,7 +358,11 @@ impl FileRow for ProductRow {
     ghost row_in = { product_row };
 
     #[tactic(auto, unfolding(feed_faults::specs::AcceptedFeed::product_row, feed_faults::specs::FieldValues::amount_or_zero))]
-    fn of<C: CallTable>(source: &Source<C>, table: &Table, row: u32) -> Result<Self, AllocError> {
+    fn of<C: CallTable>(
+        source: &TableSource<C>,
+        table: &Table,
+        row: u32,
+    ) -> Result<Self, AllocError> {
         let &[_, _, _, _, amount] = source.tables.numbers::<5>(FileName::FareProducts, row);
         let product = table.field(row, ColumnName::FareProductId);
         let rider = table.field(row, ColumnName::RiderCategoryId);
@@ -337,7 +389,11 @@ impl FileRow for LegRuleRow {
     ghost row_in = { leg_rule_row };
 
     #[tactic(auto, unfolding(feed_faults::specs::AcceptedFeed::leg_rule_row), using(crate::proofs::ValueLaws::values))]
-    fn of<C: CallTable>(source: &Source<C>, table: &Table, row: u32) -> Result<Self, AllocError> {
+    fn of<C: CallTable>(
+        source: &TableSource<C>,
+        table: &Table,
+        row: u32,
+    ) -> Result<Self, AllocError> {
         let &[_, _, _, _, _, _, _, priority] = source
             .tables
             .numbers::<8>(FileName::FareLegRules, row);
@@ -372,7 +428,11 @@ impl FileRow for TransferRuleRow {
     ghost row_in = { transfer_rule_row };
 
     #[tactic(auto, unfolding(feed_faults::specs::AcceptedFeed::transfer_rule_row, feed_faults::specs::AcceptedFeed::limit_of), using(crate::proofs::ValueLaws::values))]
-    fn of<C: CallTable>(source: &Source<C>, table: &Table, row: u32) -> Result<Self, AllocError> {
+    fn of<C: CallTable>(
+        source: &TableSource<C>,
+        table: &Table,
+        row: u32,
+    ) -> Result<Self, AllocError> {
         let &[_, _, count, seconds, limit_kind, kind, _] = source
             .tables
             .numbers::<7>(FileName::FareTransferRules, row);
@@ -397,7 +457,7 @@ impl FileRow for TransferRuleRow {
 
 // A row of `transfers.txt` that isn't passed over.
 #[tactic(auto, unfolding(feed_faults::specs::AcceptedFeed::link_row), using(crate::proofs::ValueLaws::values))]
-fn link_row<C: CallTable>(source: &Source<C>, row: u32) -> LinkRow
+fn link_row<C: CallTable>(source: &TableSource<C>, row: u32) -> LinkRow
     requires within { row < row_count (table_in source.now file.Transfers) }
     requires judged { is_passed_over (field (table_in source.now file.Transfers) row) ≡ false }
     ensures { result ≡ link_row source.now row }
@@ -414,7 +474,7 @@ fn link_row<C: CallTable>(source: &Source<C>, row: u32) -> LinkRow
     }
 }
 
-impl<'t, C: CallTable> Source<'t, C> {
+impl<'t, C: CallTable> TableSource<'t, C> {
     // The name of a route's network: that of its own row, or else that of its row in route_networks.txt.
     #[tactic(auto, unfolding(feed_faults::specs::AcceptedFeed::network_of_route))]
     fn network_of_route(&self, row: u32) -> &'t [u8]

@@ -21,7 +21,7 @@ use Rattle.feed_rows.specs.TransferRules.{group_matches, limit_holds, is_candida
 use Rattle.feed_rows.specs.FareChoices.{is_open, is_leg_choice, is_transfer_choice}
 use Rattle.feed_rows.specs.FareSums.{amount_of}
 use Rattle.feed_rows.specs.FareStands.{FareStand, extends, next_run, first_fare_stand, next_fare_stand, stand_at}
-use Rattle.feed_examples.specs.BaseFeed.{base, on_the_day}
+use Rattle.feed_examples.specs.BaseFeed.{base, on_the_day, no_category}
 use Rattle.feed_examples.proofs.CornerJourneys.{with_links, link_row}
 use Rattle.feed_examples.proofs.CornerRides.{timed}
 use Rattle.feed_examples.proofs.WorkedEntries.{ride, leg, change, free_change, paid, morning, two_rides}
@@ -93,7 +93,7 @@ sets_by_row = (refl, refl, refl, refl)
 
 -- the changes of the run, what is paid and what is held after leg i
 abbrev summed : FeedRows → List LegFacts → List LegChoice → List (Option ChangeChoice) → ℕ → Option (ℕ × ℤ × ℤ)
-summed feed legs picks places i = summary (stand_at feed None legs (paid picks places) i)
+summed feed legs picks places i = summary (stand_at feed no_category legs (paid picks places) i)
   where
     summary : Option FareStand → Option (ℕ × ℤ × ℤ)
     summary None = None

@@ -20,7 +20,7 @@ use Rattle.feed_rows.specs.JourneyEntries.{IsEntry, IsMinimal, IsExactAnswer, ri
 use Rattle.feed_rows.specs.PriceTexts.{IsPriceText, IsUncovered}
 use Rattle.feed_examples.proofs.EntryChecks.{entry_test}
 use Rattle.feed_laws.proofs.ParetoLaws.{is_before-irrefl}
-use Rattle.feed_examples.specs.BaseFeed.{base}
+use Rattle.feed_examples.specs.BaseFeed.{base, no_category}
 use Rattle.feed_examples.proofs.WorkedEntries.{ride, leg, change, entry, by_two_rides, by_one_ride, morning, paid, no_rides, with_walk}
 
 -- ---- triples
@@ -62,21 +62,21 @@ not_dominated exact =
 -- ---- what is no way to travel
 
 -- no choice pays a ride of a trip that is not there
-absent_ride_uncovered : IsUncovered base (ride 9 0 1 ∷ []) None
+absent_ride_uncovered : IsUncovered base (ride 9 0 1 ∷ []) no_category
 unfolding is_ride ride_facts legs_of
 absent_ride_uncovered choice = refl
 
 -- but it has no price text, not even that it is uncovered
-absent_ride_text : (text : List ℕ) → IsPriceText base (ride 9 0 1 ∷ []) None text → ⊥
+absent_ride_text : (text : List ℕ) → IsPriceText base (ride 9 0 1 ∷ []) no_category text → ⊥
 unfolding is_ride
 absent_ride_text text priced = let wrong : false ≡ true = priced.0.are_rides 0 (ride 9 0 1) (omega arith) in absurd (cc)
 
 -- two rides that don't join cost their tickets
-unjoined_price : rides_price base (ride 1 0 1 ∷ ride 0 0 1 ∷ []) (paid (leg 1 1 ∷ leg 0 0 ∷ []) (None ∷ [])) None ≡ Some (pos 650)
+unjoined_price : rides_price base (ride 1 0 1 ∷ ride 0 0 1 ∷ []) (paid (leg 1 1 ∷ leg 0 0 ∷ []) (None ∷ [])) no_category ≡ Some (pos 650)
 unfolding entry_test is_ride ride_facts is_active shifts_of calls_of call_at link stop_set legs_of leg_facts stop_areas holds_at network_matches area_matches frame_matches rule_matches is_top_priority is_selected_rule group_matches limit_holds is_candidate suffices is_least_count is_selected_transfer is_arranged goes_on run_start change_at is_open is_leg_choice is_transfer_choice is_leg_paid is_change_paid is_fare_choice transfer_kind starts_chain is_charged amount_of leg_charge change_charge fare_sum
 unjoined_price = refl
 
 -- but have no price text: T1 leaves before T2 arrives
-unjoined_text : (text : List ℕ) → IsPriceText base (ride 1 0 1 ∷ ride 0 0 1 ∷ []) None text → ⊥
+unjoined_text : (text : List ℕ) → IsPriceText base (ride 1 0 1 ∷ ride 0 0 1 ∷ []) no_category text → ⊥
 unfolding is_ride ride_facts is_active shifts_of calls_of call_at link
 unjoined_text text priced = let wrong : false ≡ true = priced.0.goes_on 0 (omega arith) in absurd (cc)

@@ -1,5 +1,5 @@
 -- Worked examples of transfer rules and prices at their edges: chains of each two types, limits and counts along a run, empty
--- group fields, products closed to the rider, and choices that name rows which are not there.
+-- group fields, products closed to the buyer, and choices that name rows which are not there.
 use Rattle.std.proofs.Common.{◌≡◌, refl, ℕ, false, List, [], ◌∷◌, ◌++◌}
 use Rattle.std.specs.Prelude.{Option, Some, None, ℤ, pos, negsuc, codes}
 use Rattle.feed_rows.specs.FeedRows.{FeedRows}
@@ -20,7 +20,7 @@ use Rattle.feed_rows.specs.FareChoices.{is_open, is_leg_choice, is_transfer_choi
 use Rattle.feed_rows.specs.FareSums.{transfer_kind, starts_chain, is_charged, amount_of, leg_charge, change_charge, fare_sum}
 use Rattle.feed_rows.specs.JourneyEntries.{rides_price}
 use Rattle.feed_examples.proofs.EntryChecks.{entry_test}
-use Rattle.feed_examples.specs.BaseFeed.{base, platform, trip, call, ticket, network_rule, transfer_rule}
+use Rattle.feed_examples.specs.BaseFeed.{base, platform, trip, call, ticket, network_rule, transfer_rule, no_category, of_category}
 use Rattle.feed_examples.proofs.WorkedEntries.{ride, leg, change, free_change, two_rides, paid}
 
 -- a transfer rule of this type with a product, where there is a type
@@ -68,7 +68,7 @@ three_legs = leg 0 0 ∷ leg 1 1 ∷ leg 2 2 ∷ []
 
 -- the price of the three rides with a change of 0.50 and one of 0.07, where these are arranged
 abbrev chain_price : Option ℕ → Option ℕ → Option ℤ
-chain_price first second = rides_price (chain first second) three_rides (paid three_legs (change_if first 3 0 ∷ change_if second 4 (rules_before first) ∷ [])) None
+chain_price first second = rides_price (chain first second) three_rides (paid three_legs (change_if first 3 0 ∷ change_if second 4 (rules_before first) ∷ [])) no_category
 
 -- ---- types
 
@@ -93,7 +93,7 @@ unfolding entry_test is_ride ride_facts is_active shifts_of calls_of call_at lin
 after_type_2 = (refl, refl, refl)
 
 -- a bonus for the change may make the sum negative
-bonuses : (rides_price (record base { products = ticket 0 250 ∷ ticket 1 400 ∷ record (ticket 2 0) { amount = record { 0 = negsuc 198 } } ∷ []; transfer_rules = transfer_rule 0 1 2 (Some (record { 0 = 2 })) ∷ [] }) two_rides (paid (leg 0 0 ∷ leg 1 1 ∷ []) (change 0 2 ∷ [])) None ≡ Some (negsuc 198)) × (rides_price (record base { products = ticket 0 250 ∷ ticket 1 400 ∷ record (ticket 2 0) { amount = record { 0 = negsuc 198 } } ∷ [] }) two_rides (paid (leg 0 0 ∷ leg 1 1 ∷ []) (change 0 2 ∷ [])) None ≡ Some (pos 51))
+bonuses : (rides_price (record base { products = ticket 0 250 ∷ ticket 1 400 ∷ record (ticket 2 0) { amount = record { 0 = negsuc 198 } } ∷ []; transfer_rules = transfer_rule 0 1 2 (Some (record { 0 = 2 })) ∷ [] }) two_rides (paid (leg 0 0 ∷ leg 1 1 ∷ []) (change 0 2 ∷ [])) no_category ≡ Some (negsuc 198)) × (rides_price (record base { products = ticket 0 250 ∷ ticket 1 400 ∷ record (ticket 2 0) { amount = record { 0 = negsuc 198 } } ∷ [] }) two_rides (paid (leg 0 0 ∷ leg 1 1 ∷ []) (change 0 2 ∷ [])) no_category ≡ Some (pos 51))
 unfolding entry_test is_ride ride_facts is_active shifts_of calls_of call_at link stop_set legs_of leg_facts stop_areas holds_at network_matches area_matches frame_matches rule_matches is_top_priority is_selected_rule group_matches limit_holds is_candidate suffices is_least_count is_selected_transfer is_arranged goes_on run_start change_at is_open is_leg_choice is_transfer_choice is_leg_paid is_change_paid is_fare_choice transfer_kind starts_chain is_charged amount_of leg_charge change_charge fare_sum
 bonuses = (refl, refl)
 
@@ -123,7 +123,7 @@ any_to_any count = record (transfer_rule 0 0 0 None) { from = None; to = None; c
 
 -- the price of the three buses with these changes
 abbrev bus_price : List TransferRuleRow → List (Option ChangeChoice) → Option ℤ
-bus_price rows changes = rides_price (buses rows) three_rides (paid bus_legs changes) None
+bus_price rows changes = rides_price (buses rows) three_rides (paid bus_legs changes) no_category
 
 -- a limit at the second change counts from the first leg: it is met exactly for each of the four types
 run_limits_met : (bus_price (within_group None (seconds_of 2400 0) ∷ []) (free_change 0 ∷ free_change 0 ∷ []) ≡ Some (pos 250)) × (bus_price (within_group None (seconds_of 1800 1) ∷ []) (free_change 0 ∷ free_change 0 ∷ []) ≡ Some (pos 250)) × (bus_price (within_group None (seconds_of 1200 2) ∷ []) (free_change 0 ∷ free_change 0 ∷ []) ≡ Some (pos 250)) × (bus_price (within_group None (seconds_of 1800 3) ∷ []) (free_change 0 ∷ free_change 0 ∷ []) ≡ Some (pos 250))
@@ -165,24 +165,24 @@ broken_run =
     }
 
 -- a change that is not arranged starts the run anew: the second change counts 1, from the second leg
-run_starts_anew : (rides_price broken_run three_rides (paid bus_legs (None ∷ free_change 0 ∷ [])) None ≡ Some (pos 500)) × (rides_price broken_run three_rides (paid bus_legs (None ∷ None ∷ [])) None ≡ None) × (rides_price broken_run three_rides (paid bus_legs (free_change 0 ∷ None ∷ [])) None ≡ None)
+run_starts_anew : (rides_price broken_run three_rides (paid bus_legs (None ∷ free_change 0 ∷ [])) no_category ≡ Some (pos 500)) × (rides_price broken_run three_rides (paid bus_legs (None ∷ None ∷ [])) no_category ≡ None) × (rides_price broken_run three_rides (paid bus_legs (free_change 0 ∷ None ∷ [])) no_category ≡ None)
 unfolding entry_test is_ride ride_facts is_active shifts_of calls_of call_at link stop_set legs_of leg_facts stop_areas holds_at network_matches area_matches frame_matches rule_matches is_top_priority is_selected_rule group_matches limit_holds is_candidate suffices is_least_count is_selected_transfer is_arranged goes_on run_start change_at is_open is_leg_choice is_transfer_choice is_leg_paid is_change_paid is_fare_choice transfer_kind starts_chain is_charged amount_of leg_charge change_charge fare_sum
 run_starts_anew = (refl, refl, refl)
 
 -- ---- empty groups
 
 -- where both groups are empty the rule is for each change between legs with groups, and its count is of the run
-empty_groups : (rides_price (record (chain None None) { transfer_rules = any_to_any None ∷ [] }) three_rides (paid three_legs (free_change 0 ∷ free_change 0 ∷ [])) None ≡ Some (pos 250)) × (rides_price (record (chain None None) { transfer_rules = any_to_any (Some 1) ∷ [] }) three_rides (paid three_legs (free_change 0 ∷ free_change 0 ∷ [])) None ≡ Some (pos 250)) × (bus_price (any_to_any (Some 1) ∷ []) (free_change 0 ∷ None ∷ []) ≡ Some (pos 500)) × (bus_price (any_to_any (Some 2) ∷ []) (free_change 0 ∷ free_change 0 ∷ []) ≡ Some (pos 250))
+empty_groups : (rides_price (record (chain None None) { transfer_rules = any_to_any None ∷ [] }) three_rides (paid three_legs (free_change 0 ∷ free_change 0 ∷ [])) no_category ≡ Some (pos 250)) × (rides_price (record (chain None None) { transfer_rules = any_to_any (Some 1) ∷ [] }) three_rides (paid three_legs (free_change 0 ∷ free_change 0 ∷ [])) no_category ≡ Some (pos 250)) × (bus_price (any_to_any (Some 1) ∷ []) (free_change 0 ∷ None ∷ []) ≡ Some (pos 500)) × (bus_price (any_to_any (Some 2) ∷ []) (free_change 0 ∷ free_change 0 ∷ []) ≡ Some (pos 250))
 unfolding entry_test is_ride ride_facts is_active shifts_of calls_of call_at link stop_set legs_of leg_facts stop_areas holds_at network_matches area_matches frame_matches rule_matches is_top_priority is_selected_rule group_matches limit_holds is_candidate suffices is_least_count is_selected_transfer is_arranged goes_on run_start change_at is_open is_leg_choice is_transfer_choice is_leg_paid is_change_paid is_fare_choice transfer_kind starts_chain is_charged amount_of leg_charge change_charge fare_sum
 empty_groups = (refl, refl, refl, refl)
 
 -- a leg whose rule has no group is in no arranged change
-no_group : rides_price (record (chain None None) { transfer_rules = any_to_any None ∷ []; leg_rules = network_rule 0 0 0 ∷ record (network_rule 1 1 1) { group = None } ∷ network_rule 2 2 2 ∷ [] }) three_rides (paid three_legs (None ∷ None ∷ [])) None ≡ Some (pos 750)
+no_group : rides_price (record (chain None None) { transfer_rules = any_to_any None ∷ []; leg_rules = network_rule 0 0 0 ∷ record (network_rule 1 1 1) { group = None } ∷ network_rule 2 2 2 ∷ [] }) three_rides (paid three_legs (None ∷ None ∷ [])) no_category ≡ Some (pos 750)
 unfolding entry_test is_ride ride_facts is_active shifts_of calls_of call_at link stop_set legs_of leg_facts stop_areas holds_at network_matches area_matches frame_matches rule_matches is_top_priority is_selected_rule group_matches limit_holds is_candidate suffices is_least_count is_selected_transfer is_arranged goes_on run_start change_at is_open is_leg_choice is_transfer_choice is_leg_paid is_change_paid is_fare_choice transfer_kind starts_chain is_charged amount_of leg_charge change_charge fare_sum
 no_group = refl
 
 -- an empty group is not for one that a row names in that column: here rail, as the group that is changed to
-listed_group : rides_price (record (chain None None) { transfer_rules = any_to_any None ∷ transfer_rule 2 1 0 None ∷ [] }) three_rides (paid three_legs (None ∷ free_change 0 ∷ [])) None ≡ Some (pos 650)
+listed_group : rides_price (record (chain None None) { transfer_rules = any_to_any None ∷ transfer_rule 2 1 0 None ∷ [] }) three_rides (paid three_legs (None ∷ free_change 0 ∷ [])) no_category ≡ Some (pos 650)
 unfolding entry_test is_ride ride_facts is_active shifts_of calls_of call_at link stop_set legs_of leg_facts stop_areas holds_at network_matches area_matches frame_matches rule_matches is_top_priority is_selected_rule group_matches limit_holds is_candidate suffices is_least_count is_selected_transfer is_arranged goes_on run_start change_at is_open is_leg_choice is_transfer_choice is_leg_paid is_change_paid is_fare_choice transfer_kind starts_chain is_charged amount_of leg_charge change_charge fare_sum
 listed_group = refl
 
@@ -198,12 +198,12 @@ abbrev bus_bus_rail_legs : List LegChoice
 bus_bus_rail_legs = leg 0 0 ∷ leg 0 0 ∷ leg 1 1 ∷ []
 
 -- between different groups too a limit counts from the run's first leg, which is 1800 seconds before
-limit_between_groups : (rides_price (bus_bus_rail 1800) three_rides (paid bus_bus_rail_legs (free_change 0 ∷ free_change 1 ∷ [])) None ≡ Some (pos 250)) × (rides_price (bus_bus_rail 1799) three_rides (paid bus_bus_rail_legs (free_change 0 ∷ None ∷ [])) None ≡ Some (pos 650)) × (rides_price (bus_bus_rail 1799) three_rides (paid bus_bus_rail_legs (free_change 0 ∷ free_change 1 ∷ [])) None ≡ None)
+limit_between_groups : (rides_price (bus_bus_rail 1800) three_rides (paid bus_bus_rail_legs (free_change 0 ∷ free_change 1 ∷ [])) no_category ≡ Some (pos 250)) × (rides_price (bus_bus_rail 1799) three_rides (paid bus_bus_rail_legs (free_change 0 ∷ None ∷ [])) no_category ≡ Some (pos 650)) × (rides_price (bus_bus_rail 1799) three_rides (paid bus_bus_rail_legs (free_change 0 ∷ free_change 1 ∷ [])) no_category ≡ None)
 unfolding entry_test is_ride ride_facts is_active shifts_of calls_of call_at link stop_set legs_of leg_facts stop_areas holds_at network_matches area_matches frame_matches rule_matches is_top_priority is_selected_rule group_matches limit_holds is_candidate suffices is_least_count is_selected_transfer is_arranged goes_on run_start change_at is_open is_leg_choice is_transfer_choice is_leg_paid is_change_paid is_fare_choice transfer_kind starts_chain is_charged amount_of leg_charge change_charge fare_sum
 limit_between_groups = (refl, refl, refl)
 
 -- and a change between different groups counts 1, however long the run before it
-count_between_groups : rides_price (record (bus_bus_rail 0) { transfer_rules = any_to_any (Some 1) ∷ [] }) three_rides (paid bus_bus_rail_legs (free_change 0 ∷ free_change 0 ∷ [])) None ≡ Some (pos 250)
+count_between_groups : rides_price (record (bus_bus_rail 0) { transfer_rules = any_to_any (Some 1) ∷ [] }) three_rides (paid bus_bus_rail_legs (free_change 0 ∷ free_change 0 ∷ [])) no_category ≡ Some (pos 250)
 unfolding entry_test is_ride ride_facts is_active shifts_of calls_of call_at link stop_set legs_of leg_facts stop_areas holds_at network_matches area_matches frame_matches rule_matches is_top_priority is_selected_rule group_matches limit_holds is_candidate suffices is_least_count is_selected_transfer is_arranged goes_on run_start change_at is_open is_leg_choice is_transfer_choice is_leg_paid is_change_paid is_fare_choice transfer_kind starts_chain is_charged amount_of leg_charge change_charge fare_sum
 count_between_groups = refl
 
@@ -211,7 +211,7 @@ count_between_groups = refl
 
 -- the price of T1 and T2 in the base feed
 abbrev base_price : List LegChoice → List (Option ChangeChoice) → Option ℤ
-base_price legs changes = rides_price base two_rides (paid legs changes) None
+base_price legs changes = rides_price base two_rides (paid legs changes) no_category
 
 -- the product of the change is for children alone
 abbrev closed_change : FeedRows
@@ -221,13 +221,13 @@ closed_change =
       products = ticket 0 250 ∷ ticket 1 400 ∷ record (ticket 2 50) { rider = Some (record { 0 = 0 }) } ∷ [];
     }
 
--- where no product row of an arranged change is open to the rider nothing pays it: it is neither left out nor free
-closed_changes : (rides_price closed_change two_rides (paid (leg 0 0 ∷ leg 1 1 ∷ []) (change 0 2 ∷ [])) None ≡ None) × (rides_price closed_change two_rides (paid (leg 0 0 ∷ leg 1 1 ∷ []) (None ∷ [])) None ≡ None) × (rides_price closed_change two_rides (paid (leg 0 0 ∷ leg 1 1 ∷ []) (free_change 0 ∷ [])) None ≡ None)
+-- where no product row of an arranged change is open to the buyer nothing pays it: it is neither left out nor free
+closed_changes : (rides_price closed_change two_rides (paid (leg 0 0 ∷ leg 1 1 ∷ []) (change 0 2 ∷ [])) no_category ≡ None) × (rides_price closed_change two_rides (paid (leg 0 0 ∷ leg 1 1 ∷ []) (None ∷ [])) no_category ≡ None) × (rides_price closed_change two_rides (paid (leg 0 0 ∷ leg 1 1 ∷ []) (free_change 0 ∷ [])) no_category ≡ None)
 unfolding entry_test is_ride ride_facts is_active shifts_of calls_of call_at link stop_set legs_of leg_facts stop_areas holds_at network_matches area_matches frame_matches rule_matches is_top_priority is_selected_rule group_matches limit_holds is_candidate suffices is_least_count is_selected_transfer is_arranged goes_on run_start change_at is_open is_leg_choice is_transfer_choice is_leg_paid is_change_paid is_fare_choice transfer_kind starts_chain is_charged amount_of leg_charge change_charge fare_sum
 closed_changes = (refl, refl, refl)
 
 -- it is open to riders of its category, and to no others
-open_changes : (rides_price closed_change two_rides (paid (leg 0 0 ∷ leg 1 1 ∷ []) (change 0 2 ∷ [])) (Some (record { 0 = 0 })) ≡ Some (pos 300)) × (rides_price closed_change two_rides (paid (leg 0 0 ∷ leg 1 1 ∷ []) (change 0 2 ∷ [])) (Some (record { 0 = 5 })) ≡ None)
+open_changes : (rides_price closed_change two_rides (paid (leg 0 0 ∷ leg 1 1 ∷ []) (change 0 2 ∷ [])) (of_category 0) ≡ Some (pos 300)) × (rides_price closed_change two_rides (paid (leg 0 0 ∷ leg 1 1 ∷ []) (change 0 2 ∷ [])) (of_category 5) ≡ None)
 unfolding entry_test is_ride ride_facts is_active shifts_of calls_of call_at link stop_set legs_of leg_facts stop_areas holds_at network_matches area_matches frame_matches rule_matches is_top_priority is_selected_rule group_matches limit_holds is_candidate suffices is_least_count is_selected_transfer is_arranged goes_on run_start change_at is_open is_leg_choice is_transfer_choice is_leg_paid is_change_paid is_fare_choice transfer_kind starts_chain is_charged amount_of leg_charge change_charge fare_sum
 open_changes = (refl, refl)
 
@@ -242,6 +242,6 @@ unfolding entry_test is_ride ride_facts is_active shifts_of calls_of call_at lin
 places = (refl, refl)
 
 -- no rides cost nothing, by the empty choice alone
-no_rides_price : (rides_price base [] (paid [] []) None ≡ Some (pos 0)) × (rides_price base [] (paid (leg 0 0 ∷ []) []) None ≡ None) × (rides_price base [] (paid [] (None ∷ [])) None ≡ None)
+no_rides_price : (rides_price base [] (paid [] []) no_category ≡ Some (pos 0)) × (rides_price base [] (paid (leg 0 0 ∷ []) []) no_category ≡ None) × (rides_price base [] (paid [] (None ∷ [])) no_category ≡ None)
 unfolding entry_test is_ride ride_facts is_active shifts_of calls_of call_at link stop_set legs_of leg_facts stop_areas holds_at network_matches area_matches frame_matches rule_matches is_top_priority is_selected_rule group_matches limit_holds is_candidate suffices is_least_count is_selected_transfer is_arranged goes_on run_start change_at is_open is_leg_choice is_transfer_choice is_leg_paid is_change_paid is_fare_choice transfer_kind starts_chain is_charged amount_of leg_charge change_charge fare_sum
 no_rides_price = (refl, refl, refl)

@@ -17,7 +17,7 @@ use Rattle.feed_rows.specs.FareChoices.{is_open, is_leg_choice, is_transfer_choi
 use Rattle.feed_rows.specs.FareSums.{transfer_kind, starts_chain, is_charged, amount_of, leg_charge, change_charge, fare_sum}
 use Rattle.feed_rows.specs.JourneyEntries.{rides_price}
 use Rattle.feed_examples.proofs.EntryChecks.{entry_test}
-use Rattle.feed_examples.specs.BaseFeed.{base, platform, call, ticket, network_rule}
+use Rattle.feed_examples.specs.BaseFeed.{base, platform, call, ticket, network_rule, no_category, of_category}
 use Rattle.feed_examples.proofs.WorkedEntries.{ride, leg, paid}
 
 -- a row of stop_areas.txt
@@ -30,7 +30,7 @@ one_bus = ride 2 0 1 ∷ []
 
 -- the price of T3 by this rule and product row
 abbrev bus_price : FeedRows → ℕ → ℕ → Option ℤ
-bus_price feed rule product = rides_price feed one_bus (paid (leg rule product ∷ []) []) None
+bus_price feed rule product = rides_price feed one_bus (paid (leg rule product ∷ []) []) no_category
 
 -- ---- areas
 
@@ -94,7 +94,7 @@ no_network =
     }
 
 -- the empty network is for a leg without network, and for one whose network no rule names; a filled one is for neither
-empty_network : (bus_price no_network 0 0 ≡ None) × (bus_price no_network 1 1 ≡ Some (pos 400)) × (rides_price no_network (ride 1 0 1 ∷ []) (paid (leg 1 1 ∷ []) []) None ≡ Some (pos 400))
+empty_network : (bus_price no_network 0 0 ≡ None) × (bus_price no_network 1 1 ≡ Some (pos 400)) × (rides_price no_network (ride 1 0 1 ∷ []) (paid (leg 1 1 ∷ []) []) no_category ≡ Some (pos 400))
 unfolding entry_test is_ride ride_facts is_active shifts_of calls_of call_at link stop_set legs_of leg_facts stop_areas holds_at network_matches area_matches frame_matches rule_matches is_top_priority is_selected_rule group_matches limit_holds is_candidate suffices is_least_count is_selected_transfer is_arranged goes_on run_start change_at is_open is_leg_choice is_transfer_choice is_leg_paid is_change_paid is_fare_choice transfer_kind starts_chain is_charged amount_of leg_charge change_charge fare_sum
 empty_network = (refl, refl, refl)
 
@@ -131,8 +131,8 @@ ranked_for_child =
           ∷ record (ticket 2 50) { rider = Some (record { 0 = 0 }) } ∷ [];
     }
 
--- a rule whose product has no row for the rider stays the selected one: the lower priority doesn't step in
-closed_top : (rides_price ranked_for_child one_bus (paid (leg 0 0 ∷ []) []) None ≡ None) × (rides_price ranked_for_child one_bus (paid (leg 1 1 ∷ []) []) (Some (record { 0 = 0 })) ≡ Some (pos 400))
+-- a rule whose product has no row for the buyer stays the selected one: the lower priority doesn't step in
+closed_top : (rides_price ranked_for_child one_bus (paid (leg 0 0 ∷ []) []) no_category ≡ None) × (rides_price ranked_for_child one_bus (paid (leg 1 1 ∷ []) []) (of_category 0) ≡ Some (pos 400))
 unfolding entry_test is_ride ride_facts is_active shifts_of calls_of call_at link stop_set legs_of leg_facts stop_areas holds_at network_matches area_matches frame_matches rule_matches is_top_priority is_selected_rule group_matches limit_holds is_candidate suffices is_least_count is_selected_transfer is_arranged goes_on run_start change_at is_open is_leg_choice is_transfer_choice is_leg_paid is_change_paid is_fare_choice transfer_kind starts_chain is_charged amount_of leg_charge change_charge fare_sum
 closed_top = (refl, refl)
 

@@ -1,10 +1,10 @@
 -- What `check` prints where all counts differ, the lines of faults without a column, and what a least price is.
-use Rattle.std.specs.Prelude.{◌≡◌, refl, [], ◌∷◌, ◌++◌, map, Option, Some, None, ℤ, pos, ◌≤ℤ◌, List, codes}
+use Rattle.std.specs.Prelude.{◌≡◌, refl, [], ◌∷◌, ◌++◌, map, Some, None, ℤ, pos, ◌≤ℤ◌, List, codes}
 use Rattle.std.specs.Fmt.{digits}
-use Rattle.transit_base.specs.declared.numbers.RiderId.{RiderId}
 use Rattle.feed_files.specs.declared.names.FileName.TheVariants as file
 use Rattle.feed_files.specs.declared.names.ColumnName.TheVariants as column
 use Rattle.feed_files.specs.declared.faults.FaultKind.TheVariants as kind
+use Rattle.feed_rows.specs.declared.journeys.Buyer.{Buyer}
 use Rattle.feed_rows.specs.declared.journeys.Ride.{Ride}
 use Rattle.feed_rows.specs.declared.fares.Choice.{Choice}
 use Rattle.feed_rows.specs.FeedRows.{FeedRows}
@@ -34,14 +34,14 @@ unfolding digits
 places_in_part = refl
 
 -- what any choice pays is at least the least price
-no_choice_pays_less : (feed : FeedRows) (rides : List Ride) (rider : Option RiderId) (choice : Choice) (price : ℤ) → IsLeastPrice feed rides rider choice price
-    → (other : Choice) (sum : ℤ) → rides_price feed rides other rider ≡ Some sum → price ≤ℤ sum
-no_choice_pays_less feed rides rider choice price h other sum paid = h.least other sum paid
+no_choice_pays_less : (feed : FeedRows) (rides : List Ride) (buyer : Buyer) (choice : Choice) (price : ℤ) → IsLeastPrice feed rides buyer choice price
+    → (other : Choice) (sum : ℤ) → rides_price feed rides other buyer ≡ Some sum → price ≤ℤ sum
+no_choice_pays_less feed rides buyer choice price h other sum paid = h.least other sum paid
 
 -- and the choice pays it
-choice_pays_it : (feed : FeedRows) (rides : List Ride) (rider : Option RiderId) (choice : Choice) (price : ℤ) → IsLeastPrice feed rides rider choice price
-    → rides_price feed rides choice rider ≡ Some price
-choice_pays_it feed rides rider choice price h = h.paid
+choice_pays_it : (feed : FeedRows) (rides : List Ride) (buyer : Buyer) (choice : Choice) (price : ℤ) → IsLeastPrice feed rides buyer choice price
+    → rides_price feed rides choice buyer ≡ Some price
+choice_pays_it feed rides buyer choice price h = h.paid
 
 -- the number of rides is printed as it is, whatever the number of legs
 rides_are_told : price_text base 3 (paid (leg 0 0 ∷ []) []) (pos 250)

@@ -8,7 +8,7 @@ use Rattle.feed_rows.specs.Requests.{Request, Plan}
 use Rattle.feed_rows.specs.Commands.{read_words}
 use Rattle.feed_rows.specs.declared.usage.UsageFault.{UsageFault}
 use Rattle.feed_rows.specs.declared.usage.UsageFault.TheVariants as usage
-use Rattle.feed_examples.proofs.WordChecks.{asked, wrong}
+use Rattle.feed_examples.proofs.WordChecks.{read_text, wrong}
 
 -- an option's value stands behind its name and `=`, and is not empty; nothing else that begins with the name has one
 values_behind_names : map (joined_value (codes "--rides"))
@@ -18,7 +18,7 @@ values_behind_names = refl
 
 -- a name with more behind it, a name where its value should be, a name alone at the end, a name twice in either form, an
 -- option before the command, no name before `=`, letters of the other case, and a word too many
-wrong_plans : map asked
+wrong_plans : map read_text
     (codes "plan A C 2025-06-02 08:00:00 --ridesx1" ∷ codes "plan A C 2025-06-02 08:00:00 --rides1" ∷ codes "plan A C 2025-06-02 --rides 08:00:00"
     ∷ codes "plan A C 2025-06-02 08:00:00 --rides 1 --rides" ∷ codes "plan --rides --rides 1 A C 2025-06-02 08:00:00" ∷ codes "plan --rides=--rides 1 A C 2025-06-02 08:00:00"
     ∷ codes "--rides 1 plan A C 2025-06-02 08:00:00" ∷ codes "plan A C 2025-06-02 08:00:00 --=1" ∷ codes "plan A C 2025-06-02 08:00:00 --rides==1 --rider" ∷ codes "plan A C 2025-06-02 08:00:00 --RIDES=1"
@@ -33,7 +33,7 @@ plan_of from to rider = Ok (Plan (record { from = from; to = to; departure = pos
 
 -- a value behind `=` may be any text, also a name or a dash; stops may be named like a command or begin with `=`; a second
 -- `=` belongs to the value
-odd_plans : map asked
+odd_plans : map read_text
     (codes "plan --rider=--rides A C 1970-01-01 0:00:00" ∷ codes "plan A C 1970-01-01 0:00:00 --rider=-" ∷ codes "plan A C 1970-01-01 --rider=-- 0:00:00"
     ∷ codes "plan plan --rider rides =x 1970-01-01 0:00:00" ∷ codes "plan A C 1970-01-01 0:00:00 --rides==1" ∷ [])
     ≡ plan_of (codes "A") (codes "C") (codes "--rides") ∷ plan_of (codes "A") (codes "C") (codes "-") ∷ plan_of (codes "A") (codes "C") (codes "--")

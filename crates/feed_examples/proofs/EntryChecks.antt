@@ -27,7 +27,7 @@ entry_test feed query entry =
     && filled_and (final_arrival feed query entry.journey) (int_same entry.triple.arrival.0)
     && int_le entry.triple.arrival.0 (query.departure.0 +ℤ pos query.window)
     && (entry.triple.rides == length entry.journey.rides)
-    && filled_and (rides_price feed entry.journey.rides entry.choice query.rider) (int_same entry.triple.price.0)
+    && filled_and (rides_price feed entry.journey.rides entry.choice query.buyer) (int_same entry.triple.price.0)
 
 filled-is : (o : Option ℤ) (z : ℤ) → filled_and o (int_same z) ≡ true → o ≡ Some z
 filled-is None z e = absurd (let no : false ≡ true = e in cc)

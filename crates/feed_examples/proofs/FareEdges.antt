@@ -19,7 +19,7 @@ use Rattle.feed_rows.specs.TransferRules.{group_matches, limit_holds, is_candida
 use Rattle.feed_rows.specs.FareChoices.{is_open, is_leg_choice, is_transfer_choice, is_leg_paid, is_change_paid, is_fare_choice}
 use Rattle.feed_rows.specs.FareSums.{transfer_kind, starts_chain, is_charged, amount_of, leg_amount, leg_charge, change_charge, fare_sum}
 use Rattle.feed_rows.specs.JourneyEntries.{rides_price}
-use Rattle.feed_examples.specs.BaseFeed.{base, platform, trip, call, ticket, transfer_rule}
+use Rattle.feed_examples.specs.BaseFeed.{base, platform, trip, call, ticket, transfer_rule, no_category, of_category}
 use Rattle.feed_examples.proofs.WorkedEntries.{ride, leg, change, free_change, paid, two_rides}
 use Rattle.feed_examples.proofs.CornerFares.{chain, three_legs}
 use Rattle.feed_examples.proofs.LegEdges.{one_bus, bus_price}
@@ -41,7 +41,7 @@ bus_rail_rail count limit =
 abbrev bus_rail_rail_price : Option ℕ → Option Limit → Option ℤ
 bus_rail_rail_price count limit =
     rides_price (bus_rail_rail count limit) three_rides
-    (paid (leg 0 0 ∷ leg 1 1 ∷ leg 1 1 ∷ []) (free_change 0 ∷ free_change 1 ∷ [])) None
+    (paid (leg 0 0 ∷ leg 1 1 ∷ leg 1 1 ∷ []) (free_change 0 ∷ free_change 1 ∷ [])) no_category
 
 -- four buses of one group, with a rule for so many changes
 abbrev four_buses : ℕ → FeedRows
@@ -59,7 +59,7 @@ four_buses count =
 abbrev four_price : ℕ → List (Option ChangeChoice) → Option ℤ
 four_price count changes =
     rides_price (four_buses count) (ride 0 0 1 ∷ ride 1 0 1 ∷ ride 2 0 1 ∷ ride 3 0 1 ∷ [])
-    (paid (leg 0 0 ∷ leg 0 0 ∷ leg 0 0 ∷ leg 0 0 ∷ []) changes) None
+    (paid (leg 0 0 ∷ leg 0 0 ∷ leg 0 0 ∷ leg 0 0 ∷ []) changes) no_category
 
 -- a free rule with an empty group on one side or on both
 abbrev to_any : ℕ → TransferRuleRow
@@ -74,7 +74,7 @@ any_to_any = record (transfer_rule 0 0 0 None) { from = None; to = None }
 -- bus, rail and tram with these rules
 abbrev chain_price : List TransferRuleRow → List (Option ChangeChoice) → Option ℤ
 chain_price rules changes = rides_price (record (chain None None) { transfer_rules = rules }) three_rides
-    (paid three_legs changes) None
+    (paid three_legs changes) no_category
 
 -- a rule with a limit of one second, and a change to a leg that departs and arrives before the first one
 abbrev one_second : FeedRows
@@ -149,14 +149,14 @@ many_rows =
     }
 
 abbrev child_price : List LegChoice → Option ℤ
-child_price legs = rides_price many_rows one_bus (paid legs []) (Some (record { 0 = 0 }))
+child_price legs = rides_price many_rows one_bus (paid legs []) (of_category 0)
 
 abbrev changed_price : Option ChangeChoice → Option ℤ
-changed_price place = rides_price many_rows two_rides (paid (leg 0 0 ∷ leg 1 3 ∷ []) (place ∷ [])) None
+changed_price place = rides_price many_rows two_rides (paid (leg 0 0 ∷ leg 1 3 ∷ []) (place ∷ [])) no_category
 
 -- what prices tell of products and of rows of equal counts
 record ProductEdges : Type 0 where
-  -- each row of a product that is open to the rider is a ticket, whatever its medium
+  -- each row of a product that is open to the buyer is a ticket, whatever its medium
   pub each_open_row :
       (bus_price many_rows 0 0 ≡ Some (pos 250))
       × (bus_price many_rows 0 1 ≡ Some (pos 200))
@@ -172,9 +172,9 @@ record ProductEdges : Type 0 where
   -- a rule without product takes no product row
   pub no_product_no_row :
       (rides_price (record base { transfer_rules = transfer_rule 0 1 0 None ∷ [] }) two_rides
-      (paid (leg 0 0 ∷ leg 1 1 ∷ []) (change 0 2 ∷ [])) None ≡ None)
+      (paid (leg 0 0 ∷ leg 1 1 ∷ []) (change 0 2 ∷ [])) no_category ≡ None)
       × (rides_price (record base { transfer_rules = transfer_rule 0 1 0 None ∷ [] }) two_rides
-      (paid (leg 0 0 ∷ leg 1 1 ∷ []) (free_change 0 ∷ [])) None ≡ Some (pos 250))
+      (paid (leg 0 0 ∷ leg 1 1 ∷ []) (free_change 0 ∷ [])) no_category ≡ Some (pos 250))
 
 product_edges : ProductEdges
 unfolding is_ride ride_facts is_active shifts_of calls_of call_at legs_of leg_facts stop_areas holds_at network_matches area_matches frame_matches rule_matches is_top_priority is_selected_rule group_matches limit_holds is_candidate suffices is_least_count is_selected_transfer is_arranged goes_on run_start change_at is_open is_leg_choice is_transfer_choice is_leg_paid is_change_paid is_fare_choice transfer_kind starts_chain is_charged amount_of leg_charge change_charge fare_sum

@@ -1,8 +1,8 @@
 -- Worked examples of the pairs of stops without a fare and of the leg rules that no ride selects.
 use Rattle.std.proofs.Common.{◌≡◌, refl, ℕ, true, List, [], ◌∷◌}
-use Rattle.std.specs.Prelude.{Option, Some, None, ℤ, pos, codes}
-use Rattle.transit_base.specs.declared.numbers.RiderId.{RiderId}
+use Rattle.std.specs.Prelude.{Some, ℤ, pos, codes}
 use Rattle.transit_base.specs.declared.numbers.RuleId.{RuleId}
+use Rattle.feed_rows.specs.declared.journeys.Buyer.{Buyer}
 use Rattle.feed_rows.specs.declared.journeys.Pair.{Pair}
 use Rattle.feed_rows.specs.declared.rows.ProductRow.{ProductRow}
 use Rattle.feed_rows.specs.FeedRows.{FeedRows}
@@ -14,11 +14,11 @@ use Rattle.feed_rows.specs.Legs.{stop_areas, holds_at, leg_facts}
 use Rattle.feed_rows.specs.LegRules.{network_matches, area_matches, frame_matches, rule_matches, is_top_priority, is_selected_rule}
 use Rattle.feed_rows.specs.FareChoices.{is_open}
 use Rattle.feed_rows.specs.FareGaps.{has_option, idle_rules, some_ride, some_ride_of_run, uncovered_pairs}
-use Rattle.feed_examples.specs.BaseFeed.{base, network_rule, ticket}
+use Rattle.feed_examples.specs.BaseFeed.{base, network_rule, ticket, no_category, of_category}
 
--- the pairs without a fare, and the idle rules, of a feed for a rider from one day of June 2025 to another
-abbrev gaps : FeedRows → Option RiderId → ℕ → ℕ → List Pair
-gaps feed rider first last = uncovered_pairs feed rider (pos first) (pos last)
+-- the pairs without a fare, and the idle rules, of a feed for a buyer from one day of June 2025 to another
+abbrev gaps : FeedRows → Buyer → ℕ → ℕ → List Pair
+gaps feed buyer first last = uncovered_pairs feed buyer (pos first) (pos last)
 
 abbrev idle : FeedRows → ℕ → ℕ → List RuleId
 idle feed first last = idle_rules feed (pos first) (pos last)
@@ -30,7 +30,7 @@ abbrev rule : ℕ → RuleId
 rule i = record { 0 = i }
 
 -- on the day of the base feed each ride has a fare, and each rule is selected
-base_day : gaps base None 20241 20241 ≡ []
+base_day : gaps base no_category 20241 20241 ≡ []
 unfolding uncovered_pairs some_ride some_ride_of_run has_option is_ride ride_facts calls_of call_at shifts_of is_active stop_areas holds_at leg_facts network_matches area_matches frame_matches rule_matches is_top_priority is_selected_rule is_open
 base_day = refl
 
@@ -47,7 +47,7 @@ days_after : idle base 20242 20243 ≡ rule 0 ∷ rule 1 ∷ []
 unfolding idle_rules some_ride some_ride_of_run is_ride ride_facts calls_of call_at shifts_of is_active stop_areas holds_at leg_facts network_matches area_matches frame_matches rule_matches is_top_priority is_selected_rule
 days_after = refl
 
-no_rides : gaps base None 20242 20242 ≡ []
+no_rides : gaps base no_category 20242 20242 ≡ []
 unfolding uncovered_pairs some_ride some_ride_of_run has_option is_ride ride_facts calls_of call_at shifts_of is_active stop_areas holds_at leg_facts network_matches area_matches frame_matches rule_matches is_top_priority is_selected_rule is_open
 no_rides = refl
 
@@ -59,7 +59,7 @@ buses = record base {
   has_priority = true;
 }
 
-trains_unpaid : gaps buses None 20241 20241 ≡ pair 1 2 ∷ []
+trains_unpaid : gaps buses no_category 20241 20241 ≡ pair 1 2 ∷ []
 unfolding uncovered_pairs some_ride some_ride_of_run has_option is_ride ride_facts calls_of call_at shifts_of is_active stop_areas holds_at leg_facts network_matches area_matches frame_matches rule_matches is_top_priority is_selected_rule is_open
 trains_unpaid = refl
 
@@ -72,11 +72,11 @@ lesser_idle = refl
 abbrev for_some : FeedRows
 for_some = record base { products = record (ticket 0 250) { rider = Some (record { 0 = 0 }) } ∷ ticket 1 400 ∷ [] }
 
-closed : gaps for_some None 20241 20241 ≡ pair 0 1 ∷ pair 0 2 ∷ []
+closed : gaps for_some no_category 20241 20241 ≡ pair 0 1 ∷ pair 0 2 ∷ []
 unfolding uncovered_pairs some_ride some_ride_of_run has_option is_ride ride_facts calls_of call_at shifts_of is_active stop_areas holds_at leg_facts network_matches area_matches frame_matches rule_matches is_top_priority is_selected_rule is_open
 closed = refl
 
-opened : gaps for_some (Some (record { 0 = 0 })) 20241 20241 ≡ []
+opened : gaps for_some (of_category 0) 20241 20241 ≡ []
 unfolding uncovered_pairs some_ride some_ride_of_run has_option is_ride ride_facts calls_of call_at shifts_of is_active stop_areas holds_at leg_facts network_matches area_matches frame_matches rule_matches is_top_priority is_selected_rule is_open
 opened = refl
 

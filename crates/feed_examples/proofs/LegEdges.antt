@@ -17,7 +17,7 @@ use Rattle.feed_rows.specs.TransferRules.{group_matches, limit_holds, is_candida
 use Rattle.feed_rows.specs.FareChoices.{is_open, is_leg_choice, is_transfer_choice, is_leg_paid, is_change_paid, is_fare_choice}
 use Rattle.feed_rows.specs.FareSums.{transfer_kind, starts_chain, is_charged, amount_of, leg_charge, change_charge, fare_sum}
 use Rattle.feed_rows.specs.JourneyEntries.{rides_price}
-use Rattle.feed_examples.specs.BaseFeed.{base, network_rule}
+use Rattle.feed_examples.specs.BaseFeed.{base, network_rule, no_category}
 use Rattle.feed_examples.proofs.WorkedEntries.{ride, leg, paid}
 
 -- a row of stop_areas.txt
@@ -30,7 +30,7 @@ one_bus = ride 2 0 1 ∷ []
 
 -- the price of T3 by this rule and product row
 abbrev pub bus_price : FeedRows → ℕ → ℕ → Option ℤ
-bus_price feed rule product = rides_price feed one_bus (paid (leg rule product ∷ []) []) None
+bus_price feed rule product = rides_price feed one_bus (paid (leg rule product ∷ []) []) no_category
 
 -- the base feed with these leg rules and no transfer rule
 abbrev with_rules : Bool → List LegRuleRow → FeedRows

@@ -21,7 +21,7 @@ use Rattle.feed_rows.specs.FareStates.{held_amount, paid_amount, greatest_count,
 use Rattle.feed_rows.specs.FareSteps.{move_of_first, move_after, AreMovesAfter}
 use Rattle.feed_rows.specs.FareExtensions.{extended, Extends, AreExtensions}
 use Rattle.feed_laws.proofs.StandLaws.{places_of_paid}
-use Rattle.feed_examples.specs.BaseFeed.{base, ticket, network_rule}
+use Rattle.feed_examples.specs.BaseFeed.{base, ticket, network_rule, no_category}
 use Rattle.feed_examples.proofs.WorkedEntries.{leg, paid}
 use Rattle.feed_examples.proofs.WorkedStates.{leg_1, leg_2, bus_1, bus_2, bus_3, state, taken, one_choice, rail_state}
 
@@ -45,7 +45,7 @@ no_pair R x i j d lt lt' = absurd (omega (arith, lt, lt'))
 
 -- no other move is one
 only_first : (s : FareState) (spent : Money) (back : Money) (r p : ℕ) (x : Option XferId) (row : Option ProductRowId) →
-    move_of_first base None leg_1 (record { state = s; paid = spent; held = back; rule = record { 0 = r }; product = record { 0 = p }; xfer = x; xfer_product = row })
+    move_of_first base no_category leg_1 (record { state = s; paid = spent; held = back; rule = record { 0 = r }; product = record { 0 = p }; xfer = x; xfer_product = row })
     ≡ Some (record { state = s; paid = spent; held = back; rule = record { 0 = r }; product = record { 0 = p }; xfer = x; xfer_product = row })
     → first ≡ record { state = s; paid = spent; held = back; rule = record { 0 = r }; product = record { 0 = p }; xfer = x; xfer_product = row }
 unfolding move_of_first greatest_count is_clock_read group_matches network_matches area_matches frame_matches rule_matches is_top_priority is_selected_rule is_open is_leg_choice amount_of
@@ -59,7 +59,7 @@ only_first s spent back (suc zero) p x row is = absurd (none-some _ is)
 only_first s spent back (suc (suc r)) p x row is = absurd (none-some _ is)
 
 abbrev AreFirst : List Move → Type 0
-AreFirst moves = AreMovesAfter base None None (pos 0) leg_1 moves
+AreFirst moves = AreMovesAfter base no_category None (pos 0) leg_1 moves
 
 record FirstMoves : Type 0 where
   pub exact : AreFirst (first ∷ [])
@@ -77,7 +77,7 @@ first_moves : FirstMoves
 unfolding held_of move_of_first greatest_count is_clock_read group_matches network_matches area_matches frame_matches rule_matches is_top_priority is_selected_rule is_open is_leg_choice amount_of
 first_moves = record {
   exact = record {
-    right = one_item (λ move. move_after base None None (pos 0) leg_1 move ≡ Some move) first refl;
+    right = one_item (λ move. move_after base no_category None (pos 0) leg_1 move ≡ Some move) first refl;
     all = λ move is. (0, omega arith, only_first move.state move.paid move.held move.rule.0 move.product.0 move.xfer move.xfer_product is);
     once = no_pair (λ (a b : Move). a ≡ b → ⊥) first;
   };
@@ -97,17 +97,17 @@ abbrev second : Move
 second = record (taken 1 1 (Some 0) (Some 2)) { state = rail_state false; paid = record { 0 = pos 300 }; held = record { 0 = pos 0 } }
 
 abbrev ExtendsT1 : Move → Type 0
-ExtendsT1 move = Extends base None (leg_1 ∷ []) one_choice leg_2 move
+ExtendsT1 move = Extends base no_category (leg_1 ∷ []) one_choice leg_2 move
 
 record ExtensionChecks : Type 0 where
-  pub of_none : Extends base None [] no_choice leg_1 first
+  pub of_none : Extends base no_category [] no_choice leg_1 first
   pub of_first : ExtendsT1 second
   -- other amounts, another state, and what doesn't pay
   pub paid_other : ExtendsT1 (record second { paid = record { 0 = pos 301 } }) → ⊥
   pub held_other : ExtendsT1 (record second { held = record { 0 = pos 400 } }) → ⊥
   pub state_other : ExtendsT1 (record second { state = rail_state true }) → ⊥
-  pub not_whole : Extends base None [] no_choice leg_1 (record first { xfer_product = Some (record { 0 = 2 }) }) → ⊥
-  pub change_before_first : Extends base None [] no_choice leg_1 (record first { xfer = Some (record { 0 = 0 }); xfer_product = Some (record { 0 = 2 }) }) → ⊥
+  pub not_whole : Extends base no_category [] no_choice leg_1 (record first { xfer_product = Some (record { 0 = 2 }) }) → ⊥
+  pub change_before_first : Extends base no_category [] no_choice leg_1 (record first { xfer = Some (record { 0 = 0 }); xfer_product = Some (record { 0 = 2 }) }) → ⊥
   pub unpaid : ExtendsT1 (record second { xfer = None; xfer_product = None }) → ⊥
 
 is_first : Option FareState → Bool
@@ -150,7 +150,7 @@ both = by_row 0 (pos 250) ∷ by_row 1 (pos 200) ∷ []
 
 -- each choice of two buses that begins with the first ticket is made by one of two moves
 made : (r p : ℕ) (rest : List LegChoice) (places : List (Option ChangeChoice)) → length rest ≡ 0 → length places ≡ 1 →
-    is_fare_choice two_tickets (bus_1 ∷ bus_2 ∷ []) (record { legs = leg 0 0 ∷ leg r p ∷ rest; changes = places }) None ≡ true
+    is_fare_choice two_tickets (bus_1 ∷ bus_2 ∷ []) (record { legs = leg 0 0 ∷ leg r p ∷ rest; changes = places }) no_category ≡ true
     → IsMade both (record { legs = leg 0 0 ∷ leg r p ∷ rest; changes = places })
 unfolding is_leg_paid is_change_paid is_fare_choice change_at goes_on run_start is_arranged is_transfer_choice network_matches area_matches frame_matches rule_matches is_top_priority is_selected_rule is_open is_leg_choice
 made zero zero [] (None ∷ []) e f is = (by_row 0 (pos 250), (0, omega arith, refl), refl)
@@ -165,13 +165,13 @@ made r p (pick ∷ rest) places e f is = absurd (omega (arith, e))
 
 -- the same for choices that are given by their lists
 made_by : (rest : List LegChoice) (longer : Choice) → longer.legs ≡ leg 0 0 ∷ rest →
-    is_fare_choice two_tickets (bus_1 ∷ bus_2 ∷ []) longer None ≡ true → IsMade both longer
+    is_fare_choice two_tickets (bus_1 ∷ bus_2 ∷ []) longer no_category ≡ true → IsMade both longer
 made_by [] longer legs pays =
-    let long = (places_of_paid two_tickets None (bus_1 ∷ bus_2 ∷ []) longer pays).0 in
+    let long = (places_of_paid two_tickets no_category (bus_1 ∷ bus_2 ∷ []) longer pays).0 in
     let short = ap length legs in
     absurd (omega (arith, long, short))
 made_by (pick ∷ rest) longer legs pays =
-    let long = places_of_paid two_tickets None (bus_1 ∷ bus_2 ∷ []) longer pays in
+    let long = places_of_paid two_tickets no_category (bus_1 ∷ bus_2 ∷ []) longer pays in
     let short = ap length legs in
     let many = long.0 in
     let changes = long.1 in
@@ -179,7 +179,7 @@ made_by (pick ∷ rest) longer legs pays =
     ap (λ (l : List LegChoice). record { legs = l; changes = longer.changes }) legs in
     subst (IsMade both) (sym same)
     (made pick.rule.0 pick.product.0 rest longer.changes (omega (arith, many, short)) (omega (arith, changes))
-    (subst (λ (c : Choice). is_fare_choice two_tickets (bus_1 ∷ bus_2 ∷ []) c None ≡ true) same pays))
+    (subst (λ (c : Choice). is_fare_choice two_tickets (bus_1 ∷ bus_2 ∷ []) c no_category ≡ true) same pays))
 
 -- the second product row of a choice
 abbrev second_row : Choice → ℕ
@@ -191,10 +191,10 @@ second_row c = row_of c.legs
     row_of [] = 9
 
 abbrev ExtendBus : List Move → Type 0
-ExtendBus moves = AreExtensions two_tickets None (bus_1 ∷ []) one_choice bus_2 moves
+ExtendBus moves = AreExtensions two_tickets no_category (bus_1 ∷ []) one_choice bus_2 moves
 
 -- a third bus after two tickets, of which the first is paid and the second held
-third : Extends two_tickets None (bus_1 ∷ bus_2 ∷ []) (paid (leg 0 0 ∷ leg 0 0 ∷ []) (None ∷ [])) bus_3 (by_row 0 (pos 250))
+third : Extends two_tickets no_category (bus_1 ∷ bus_2 ∷ []) (paid (leg 0 0 ∷ leg 0 0 ∷ []) (None ∷ [])) bus_3 (by_row 0 (pos 250))
 unfolding held_amount paid_amount greatest_count is_clock_read fare_state group_matches limit_holds is_candidate suffices is_least_count is_selected_transfer is_arranged goes_on run_start change_at network_matches area_matches frame_matches rule_matches is_top_priority is_selected_rule is_open is_leg_choice is_transfer_choice is_leg_paid is_change_paid is_fare_choice transfer_kind starts_chain is_charged amount_of leg_charge change_charge fare_sum
 third = record { whole = refl; pays = refl; paid = refl; held = refl; state = refl }
 
@@ -221,7 +221,7 @@ extension_lists : ExtensionLists
 unfolding held_amount paid_amount greatest_count is_clock_read fare_state group_matches limit_holds is_candidate suffices is_least_count is_selected_transfer is_arranged goes_on run_start change_at network_matches area_matches frame_matches rule_matches is_top_priority is_selected_rule is_open is_leg_choice is_transfer_choice is_leg_paid is_change_paid is_fare_choice transfer_kind starts_chain is_charged amount_of leg_charge change_charge fare_sum
 extension_lists = record {
   exact = record {
-    right = two_items (Extends two_tickets None (bus_1 ∷ []) one_choice bus_2) (by_row 0 (pos 250)) (by_row 1 (pos 200))
+    right = two_items (Extends two_tickets no_category (bus_1 ∷ []) one_choice bus_2) (by_row 0 (pos 250)) (by_row 1 (pos 200))
         (record { whole = refl; pays = refl; paid = refl; held = refl; state = refl }) (record { whole = refl; pays = refl; paid = refl; held = refl; state = refl });
     all = λ longer pays begins. made_by begins.legs.0 longer begins.legs.1 pays;
     once = one_pair (λ (a b : Move). extended one_choice a ≡ extended one_choice b → ⊥) (by_row 0 (pos 250)) (by_row 1 (pos 200))

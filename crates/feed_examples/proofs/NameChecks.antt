@@ -3,16 +3,16 @@ use Rattle.std.specs.Prelude.{◌≡◌, refl, ℕ, Bool, true, false, List, [],
 use Rattle.transit_base.specs.Moments.{moment_at, civil_day, time_of_day}
 use Rattle.transit_base.specs.Dates.{date_of, date_from_year, date_in_year}
 use Rattle.transit_base.specs.DateTexts.{time_text}
-use Rattle.transit_base.specs.declared.RiderId.{RiderId}
 use Rattle.feed_rows.specs.FeedRows.{FeedRows}
 use Rattle.feed_rows.specs.Requests.{PlanRequest}
 use Rattle.feed_rows.specs.Queries.{find_stop, find_trip, find_rider, chosen_rider, query_of, has_stop_id, has_trip_id, has_rider_id, is_default_rider}
 use Rattle.feed_rows.specs.declared.rows.RiderRow.{RiderRow}
+use Rattle.feed_rows.specs.declared.journeys.Buyer.{Buyer}
 use Rattle.feed_rows.specs.declared.journeys.Query.{Query}
 use Rattle.feed_rows.specs.declared.usage.StopWord.TheVariants as stop_word
 use Rattle.feed_rows.specs.declared.usage.UsageFault.{UsageFault}
 use Rattle.feed_rows.specs.declared.usage.UsageFault.TheVariants as usage
-use Rattle.feed_examples.specs.BaseFeed.{base, platform, trip}
+use Rattle.feed_examples.specs.BaseFeed.{base, platform, trip, no_category, of_category}
 
 -- B and B2 are platforms of the station P, and E is an entrance
 abbrev station : FeedRows
@@ -35,15 +35,15 @@ abbrev riders : Bool → Bool → List RiderRow
 riders adult child = record { id = codes "adult"; default = adult } ∷ record { id = codes "child"; default = child }
     ∷ []
 
-abbrev gives : ℕ → ℕ → Option RiderId → Result Query UsageFault
-gives from to rider =
+abbrev gives : ℕ → ℕ → Buyer → Result Query UsageFault
+gives from to buyer =
     Ok (record {
       from = record { 0 = from };
       to = record { 0 = to };
       departure = record { 0 = pos 7 };
       rides = 3;
       window = 11;
-      rider = rider;
+      buyer = buyer;
     })
 
 -- the first fault: what is wrong with FROM, then with TO, then with the rider
@@ -56,18 +56,18 @@ names_in_order : map (query_of (record station { riders = riders true true }))
     ≡ Err (usage.UnknownStop stop_word.From) ∷ Err (usage.WrongStopKind stop_word.From)
     ∷ Err (usage.UnknownStop stop_word.To) ∷ Err (usage.WrongStopKind stop_word.To)
     ∷ Err (usage.UnknownStop stop_word.From) ∷ Err usage.RiderNeeded ∷ Err usage.UnknownRider
-    ∷ gives 4 1 (Some (record { 0 = 1 })) ∷ gives 1 4 (Some (record { 0 = 0 })) ∷ []
+    ∷ gives 4 1 (of_category 1) ∷ gives 1 4 (of_category 0) ∷ []
 unfolding has_stop_id has_rider_id is_default_rider
 names_in_order = refl
 
 -- the rider where none is named: the one that is marked as default, or none
 unnamed_rider :
     (query_of (record station { riders = riders false true }) (asks (codes "A") (codes "A") None)
-    ≡ gives 0 0 (Some (record { 0 = 1 })))
+    ≡ gives 0 0 (of_category 1))
     × (query_of (record station { riders = riders true false }) (asks (codes "A") (codes "C") None)
-    ≡ gives 0 2 (Some (record { 0 = 0 })))
-    × (query_of (record station { riders = riders false false }) (asks (codes "A") (codes "A") None) ≡ gives 0 0 None)
-    × (query_of station (asks (codes "A") (codes "A") None) ≡ gives 0 0 None)
+    ≡ gives 0 2 (of_category 0))
+    × (query_of (record station { riders = riders false false }) (asks (codes "A") (codes "A") None) ≡ gives 0 0 no_category)
+    × (query_of station (asks (codes "A") (codes "A") None) ≡ gives 0 0 no_category)
 unfolding has_stop_id has_rider_id is_default_rider
 unnamed_rider = (refl, refl, refl, refl)
 

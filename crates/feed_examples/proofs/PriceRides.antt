@@ -12,7 +12,7 @@ use Rattle.feed_rows.specs.StopLinks.{link}
 use Rattle.feed_rows.specs.RideWords.{RideWord}
 use Rattle.feed_rows.specs.Queries.{has_trip_id, has_rider_id, is_default_rider}
 use Rattle.feed_rows.specs.PriceQueries.{PriceQuery, named_ride, call_position, first_missed, price_query_of}
-use Rattle.feed_examples.specs.BaseFeed.{base, trip, call}
+use Rattle.feed_examples.specs.BaseFeed.{base, trip, call, no_category, of_category}
 use Rattle.feed_examples.proofs.WorkedRides.{frequent}
 use Rattle.feed_examples.proofs.WorkedEntries.{ride, from_b2}
 use Rattle.feed_examples.proofs.CornerRides.{late_run, loop_trip, frequency}
@@ -122,7 +122,7 @@ abbrev rides_of : FeedRows → List RideWord → Result PriceQuery UsageFault
 rides_of feed rides = price_query_of feed (record { rider = None; rides = rides })
 
 abbrev rides_are : List Ride → Result PriceQuery UsageFault
-rides_are rides = Ok (record { rides = rides; rider = None })
+rides_are rides = Ok (record { rides = rides; buyer = no_category })
 
 -- good rides in order
 followed_rides : map (rides_of base) ((t1 ∷ t2 ∷ []) ∷ (t3 ∷ []) ∷ (t2 ∷ []) ∷ [])
@@ -179,7 +179,7 @@ abbrev for_rider : FeedRows → Option (List ℕ) → List RideWord → Result P
 for_rider feed rider rides = price_query_of feed (record { rider = rider; rides = rides })
 
 abbrev t1_for : ℕ → Result PriceQuery UsageFault
-t1_for rider = Ok (record { rides = ride 0 0 1 ∷ []; rider = Some (record { 0 = rider }) })
+t1_for category = Ok (record { rides = ride 0 0 1 ∷ []; buyer = of_category category })
 
 -- the one that is named, the default one, none, and one that is needed; what is wrong with the rider comes last
 price_riders :

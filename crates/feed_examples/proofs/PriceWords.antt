@@ -12,8 +12,8 @@ use Rattle.feed_rows.specs.declared.usage.UsageFault.TheVariants as usage
 use Rattle.feed_examples.proofs.WordChecks.{spaced, wrong}
 
 -- what the words of a text ask for, of all commands
-abbrev pub asked : List ℕ → Result Request UsageFault
-asked text = read_words (plan ∷ price ∷ check ∷ gen ∷ []) (spaced text)
+abbrev pub read_text : List ℕ → Result Request UsageFault
+read_text text = read_words (plan ∷ price ∷ check ∷ gen ∷ []) (spaced text)
 
 -- ---- the parts of a ride's word
 
@@ -91,7 +91,7 @@ abbrev priced : Option (List ℕ) → List RideWord → Result Request UsageFaul
 priced rider rides = Ok (Price (record { rider = rider; rides = rides }))
 
 -- one to eight rides in order, with the rider before, behind or among them
-good_prices : map asked
+good_prices : map read_text
     (codes "price T1,1970-01-01,-,1,2" ∷ codes "price T1,1970-01-01,-,1,2 T2,1970-01-01,-,1,2"
     ∷ codes "price --rider child T1,1970-01-01,-,1,2"
     ∷ codes "price T1,1970-01-01,-,1,2 --rider=child T2,1970-01-01,-,1,2"
@@ -108,7 +108,7 @@ good_prices = refl
 
 -- no ride, nine rides, a ride that begins with `-`, an empty word, and options of other commands: the words as a whole come
 -- before the form of a ride
-wrong_prices : map asked
+wrong_prices : map read_text
     (codes "price" ∷ codes "price --rider child" ∷ codes "price a b c d e f g h i" ∷ codes "price -T,1970-01-01,-,1,2"
     ∷ codes "price x -T,1970-01-01,-,1,2" ∷ codes "price x "
     ∷ codes "price x --rides 1" ∷ codes "price x --stats" ∷ codes "price x --within 60"
@@ -118,7 +118,7 @@ unfolding read_words role_at value_at fits_form ride_word time_value number_valu
 wrong_prices = refl
 
 -- the first ride that isn't of the form, counted among the positional words alone
-bad_ride_numbers : map asked
+bad_ride_numbers : map read_text
     (codes "price x" ∷ codes "price T1,1970-01-01,-,1,2 x" ∷ codes "price x T1,1970-01-01,-,1,2" ∷ codes "price x y"
     ∷ codes "price --rider a T1,1970-01-01,-,1,2 x y"
     ∷ codes "price a b c d e f g h" ∷ codes "price T1,1970-01-01,-,1,2 T1,1970-01-01,-,1,2 T1,2025-02-29,-,1,2" ∷ [])
@@ -134,13 +134,13 @@ abbrev made : ℕ → ℕ → Result Request UsageFault
 made seed lines = Ok (Gen (record { seed = seed; lines = lines }))
 
 -- the least and the greatest numbers, and leading zeros
-good_gens : map asked (codes "gen 7 2" ∷ codes "gen 0 2" ∷ codes "gen 65535 32" ∷ codes "gen 007 0000000016" ∷ [])
+good_gens : map read_text (codes "gen 7 2" ∷ codes "gen 0 2" ∷ codes "gen 65535 32" ∷ codes "gen 007 0000000016" ∷ [])
     ≡ made 7 2 ∷ made 0 2 ∷ made 65_535 32 ∷ made 7 16 ∷ []
 unfolding read_words role_at value_at fits_form number_value
 good_gens = refl
 
 -- numbers out of range; the seed comes before the lines, and the words as a whole before both
-bad_gens : map asked
+bad_gens : map read_text
     (codes "gen 65536 2" ∷ codes "gen x 2" ∷ codes "gen 00000000007 2" ∷ codes "gen 7 1" ∷ codes "gen 7 33"
     ∷ codes "gen 7 x" ∷ codes "gen x x" ∷ codes "gen 7 0"
     ∷ codes "gen" ∷ codes "gen 7" ∷ codes "gen x x x" ∷ codes "gen -7 2" ∷ codes "gen 7 2 --rider a" ∷ codes "gen 7 "
@@ -158,7 +158,7 @@ planned rides stats =
     Ok (Plan (record { from = codes "A"; to = codes "C"; departure = pos 1_748_851_200; rides = rides; rider = None; window = 86_400; stats = stats }))
 
 -- the flag stands anywhere behind the command, takes no value, and stands once
-stats_words : map asked
+stats_words : map read_text
     (codes "plan A C 2025-06-02 08:00:00" ∷ codes "plan A C 2025-06-02 08:00:00 --stats"
     ∷ codes "plan --stats A C 2025-06-02 08:00:00 --rides 0"
     ∷ codes "plan A --stats C 2025-06-02 08:00:00" ∷ codes "plan A C 2025-06-02 08:00:00 --stats --stats"

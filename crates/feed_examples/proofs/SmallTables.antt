@@ -1,6 +1,6 @@
 -- Whole tables that are sound or closed: over a feed of one ride, of which all partial journeys can be listed.
 use Rattle.std.proofs.Common.{◌≡◌, ◌≢◌, refl, sym, ◌∙◌, ap, subst, ℕ, zero, suc, ◌≤◌, Bool, true, false, ◌&&◌, ◌||◌, ◌==◌, nat_lt, ◌⊎◌, inl, inr, List, [], ◌∷◌, length, arith}
-use Rattle.std.specs.Prelude.{Option, Some, None, ℤ, pos, ◌+ℤ◌, option_map, slice_get, All, AllPairs, if◌then◌else◌, Contains, IsTrue, IsSome, codes}
+use Rattle.std.specs.Prelude.{Option, Some, ℤ, pos, ◌+ℤ◌, option_map, slice_get, All, AllPairs, if◌then◌else◌, Contains, IsTrue, IsSome, codes}
 use Rattle.std.specs.List.{list_any}
 use Rattle.std.proofs.lemmas.Int.{ints}
 use Rattle.std.proofs.lemmas.Bool.{and_parts, eqb-true}
@@ -9,6 +9,7 @@ use Rattle.transit_base.specs.declared.numbers.StopId.{StopId}
 use Rattle.feed_rows.specs.declared.fares.ChangeChoice.{ChangeChoice}
 use Rattle.feed_rows.specs.declared.fares.Choice.{Choice}
 use Rattle.feed_rows.specs.declared.fares.LegChoice.{LegChoice}
+use Rattle.feed_rows.specs.declared.journeys.Buyer.{Buyer}
 use Rattle.feed_rows.specs.declared.journeys.Query.{Query}
 use Rattle.feed_rows.specs.declared.journeys.Ride.{Ride}
 use Rattle.feed_rows.specs.FeedRows.{FeedRows}
@@ -35,10 +36,9 @@ use Rattle.feed_rows.specs.ClosedTable.{IsOutdone, IsClosed, IsClosedTable}
 use Rattle.feed_rows.specs.declared.fares.Entry.{Entry}
 use Rattle.feed_rows.specs.declared.fares.Triple.{Triple}
 use Rattle.transit_base.specs.declared.moments.Moment.{Moment}
-use Rattle.transit_base.specs.declared.numbers.RiderId.{RiderId}
 use Rattle.plain_laws.specs.Plain.{at_and, int_same, when}
 use Rattle.feed_laws.proofs.StandLaws.{places_of_paid, one_of_paid}
-use Rattle.feed_examples.specs.BaseFeed.{base, trip, call, ticket, network_rule, query}
+use Rattle.feed_examples.specs.BaseFeed.{base, trip, call, ticket, network_rule, query, no_category}
 use Rattle.feed_examples.proofs.EntryChecks.{entry_test, entry-by-test}
 use Rattle.feed_examples.proofs.WorkedEntries.{ride, entry, leg, paid}
 use Rattle.feed_examples.proofs.WorkedStates.{bus_1, one_choice, bus_ticket}
@@ -130,24 +130,24 @@ only_ride r e =
 
 -- a choice of no leg is empty
 no_leg : (legs : List LegChoice) (places : List (Option ChangeChoice)) →
-    is_fare_choice one_trip [] (record { legs = legs; changes = places }) None ≡ true → paid [] [] ≡ record { legs = legs; changes = places }
+    is_fare_choice one_trip [] (record { legs = legs; changes = places }) no_category ≡ true → paid [] [] ≡ record { legs = legs; changes = places }
 unfolding is_fare_choice
 no_leg [] [] e = refl
-no_leg [] (place ∷ places) e = absurd (let no = (places_of_paid one_trip None [] (record { legs = []; changes = place ∷ places }) e).1 in omega (arith, no))
-no_leg (pick ∷ picks) places e = absurd (let no = (places_of_paid one_trip None [] (record { legs = pick ∷ picks; changes = places }) e).0 in omega (arith, no))
+no_leg [] (place ∷ places) e = absurd (let no = (places_of_paid one_trip no_category [] (record { legs = []; changes = place ∷ places }) e).1 in omega (arith, no))
+no_leg (pick ∷ picks) places e = absurd (let no = (places_of_paid one_trip no_category [] (record { legs = pick ∷ picks; changes = places }) e).0 in omega (arith, no))
 
 -- the bus has one ticket
-the_ticket : (r p : ℕ) → is_fare_choice one_trip (bus_1 ∷ []) (paid (leg r p ∷ []) []) None ≡ true → one_choice ≡ paid (leg r p ∷ []) []
+the_ticket : (r p : ℕ) → is_fare_choice one_trip (bus_1 ∷ []) (paid (leg r p ∷ []) []) no_category ≡ true → one_choice ≡ paid (leg r p ∷ []) []
 unfolding is_leg_paid is_fare_choice network_matches area_matches frame_matches rule_matches is_top_priority is_selected_rule is_open is_leg_choice
 the_ticket zero zero e = refl
 the_ticket zero (suc p) e = absurd (let no : false ≡ true = e in cc)
 the_ticket (suc r) p e = absurd (let no : false ≡ true = e in cc)
 
-one_leg : (choice : Choice) → is_fare_choice one_trip (bus_1 ∷ []) choice None ≡ true → one_choice ≡ choice
+one_leg : (choice : Choice) → is_fare_choice one_trip (bus_1 ∷ []) choice no_category ≡ true → one_choice ≡ choice
 one_leg choice e =
-    let one = one_of_paid one_trip None bus_1 choice e in
+    let one = one_of_paid one_trip no_category bus_1 choice e in
     let pick = one.0 in
-    the_ticket pick.rule.0 pick.product.0 (subst (λ (c : Choice). is_fare_choice one_trip (bus_1 ∷ []) c None ≡ true) one.1 e) ∙ sym one.1
+    the_ticket pick.rule.0 pick.product.0 (subst (λ (c : Choice). is_fare_choice one_trip (bus_1 ∷ []) c no_category ≡ true) one.1 e) ∙ sym one.1
 
 -- what has a price is a choice
 is_choice : (b : Bool) (z : ℤ) → IsSome (when b z) → b ≡ true
@@ -161,10 +161,10 @@ AreOnly p = (part_0 ≡ p) ⊎ (part_1 ≡ p)
 same_part : (s s' : ℕ) (rs rs' : List Ride) (c c' : Choice) → s ≡ s' → rs ≡ rs' → c ≡ c' → part s rs c ≡ part s' rs' c'
 same_part s s' rs rs' c c' e f g = rw (e, f, g) refl
 
-pub only_parts : (query : Query) → query.from ≡ record { 0 = 0 } → query.rides ≤ 1 → query.rider ≡ None →
+pub only_parts : (query : Query) → query.from ≡ record { 0 = 0 } → query.rides ≤ 1 → query.buyer ≡ no_category →
     (p : PartialJourney) → IsPartialJourney one_trip query p → AreOnly p
 unfolding link stop_set is_ride ride_facts is_active shifts_of calls_of call_at legs_of leg_facts stop_areas holds_at
-only_parts query from few rider p is = by p.rides refl
+only_parts query from few buyer p is = by p.rides refl
   where
     or_false : (b : Bool) → (b || false) ≡ true → b ≡ true
     or_false true e = refl
@@ -175,18 +175,18 @@ only_parts query from few rider p is = by p.rides refl
         let stands : IsTrue (stands_for one_trip (record { 0 = 0 }) p.first) = subst (λ (s : StopId). IsTrue (stands_for one_trip s p.first)) from is.starts in
         eqb-true 0 p.first.0 (or_false (0 == p.first.0) stands)
 
-    pays : IsSome (rides_price one_trip p.rides p.choice None)
-    pays = subst (λ (r : Option RiderId). IsSome (rides_price one_trip p.rides p.choice r)) rider is.pays
+    pays : IsSome (rides_price one_trip p.rides p.choice no_category)
+    pays = subst (λ (b : Buyer). IsSome (rides_price one_trip p.rides p.choice b)) buyer is.pays
 
     by : (rides : List Ride) → p.rides ≡ rides → AreOnly p
     by [] none =
-        let some : IsSome (rides_price one_trip [] p.choice None) = subst (λ (rs : List Ride). IsSome (rides_price one_trip rs p.choice None)) none pays in
+        let some : IsSome (rides_price one_trip [] p.choice no_category) = subst (λ (rs : List Ride). IsSome (rides_price one_trip rs p.choice no_category)) none pays in
         inl (same_part 0 p.first.0 [] p.rides (paid [] []) p.choice first (sym none) (no_leg p.choice.legs p.choice.changes (is_choice _ _ some)))
     by (r ∷ []) one =
         let at : is_ride one_trip r ≡ true = (subst (λ (rs : List Ride). All (λ ride. IsTrue (is_ride one_trip ride)) rs) one is.rides) 0 r (omega arith) in
         let same = only_ride r at in
         let rides : bus ∷ [] ≡ p.rides = ap (λ (x : Ride). x ∷ []) same ∙ sym one in
-        let some : IsSome (rides_price one_trip (bus ∷ []) p.choice None) = subst (λ (rs : List Ride). IsSome (rides_price one_trip rs p.choice None)) (sym rides) pays in
+        let some : IsSome (rides_price one_trip (bus ∷ []) p.choice no_category) = subst (λ (rs : List Ride). IsSome (rides_price one_trip rs p.choice no_category)) (sym rides) pays in
         inr (same_part 0 p.first.0 (bus ∷ []) p.rides one_choice p.choice first rides (one_leg p.choice (is_choice _ _ some)))
     by (r ∷ s ∷ rs) many =
         let most = is.few in
@@ -291,9 +291,9 @@ only_entry e is = by e.journey.rides refl
     by [] none =
         let arrives : arrival_after one_trip stay e.journey 0 ≡ Some e.triple.arrival.0 =
         subst (λ (rs : List Ride). arrival_after one_trip stay e.journey (length rs) ≡ Some e.triple.arrival.0) none is.journey.arrives in
-        let price : rides_price one_trip [] e.choice None ≡ Some e.triple.price.0 =
-        subst (λ (rs : List Ride). rides_price one_trip rs e.choice None ≡ Some e.triple.price.0) none is.price in
-        let paid_by = cond_some (is_fare_choice one_trip [] e.choice None) (fare_sum one_trip e.choice) e.triple.price.0 price in
+        let price : rides_price one_trip [] e.choice no_category ≡ Some e.triple.price.0 =
+        subst (λ (rs : List Ride). rides_price one_trip rs e.choice no_category ≡ Some e.triple.price.0) none is.price in
+        let paid_by = cond_some (is_fare_choice one_trip [] e.choice no_category) (fare_sum one_trip e.choice) e.triple.price.0 price in
         let choice = no_leg e.choice.legs e.choice.changes paid_by.0 in
         same_triple (pos 1748851200) e.triple.arrival.0 0 e.triple.rides (pos 0) e.triple.price.0
         (stays e.journey.first.0 e.journey.last.0 e.triple.arrival.0 first last arrives)

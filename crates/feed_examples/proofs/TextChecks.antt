@@ -16,7 +16,7 @@ use Rattle.feed_files.specs.declared.faults.FaultKind.TheVariants as kind
 use Rattle.feed_rows.specs.declared.usage.StopWord.TheVariants as stop_word
 use Rattle.feed_rows.specs.declared.usage.UsageFault.{UsageFault}
 use Rattle.feed_rows.specs.declared.usage.UsageFault.TheVariants as usage
-use Rattle.feed_examples.specs.BaseFeed.{base}
+use Rattle.feed_examples.specs.BaseFeed.{base, no_category, of_category}
 
 -- a stop of this kind without a parent
 abbrev stop : List ℕ → ℕ → StopRow
@@ -102,8 +102,8 @@ between from to rider = record { from = from; to = to; departure = pos 1_748_851
 
 -- the query from stop 0 to stop 2, for a rider category
 abbrev query_for : Option ℕ → Result Query UsageFault
-query_for None = Ok (record { from = record { 0 = 0 }; to = record { 0 = 2 }; departure = record { 0 = pos 1_748_851_200 }; rides = 4; window = 86_400; rider = None })
-query_for (Some n) = Ok (record { from = record { 0 = 0 }; to = record { 0 = 2 }; departure = record { 0 = pos 1_748_851_200 }; rides = 4; window = 86_400; rider = Some (record { 0 = n }) })
+query_for None = Ok (record { from = record { 0 = 0 }; to = record { 0 = 2 }; departure = record { 0 = pos 1_748_851_200 }; rides = 4; window = 86_400; buyer = no_category })
+query_for (Some n) = Ok (record { from = record { 0 = 0 }; to = record { 0 = 2 }; departure = record { 0 = pos 1_748_851_200 }; rides = 4; window = 86_400; buyer = of_category n })
 
 -- stops that there are not, and of which FROM is told first
 pub unknown_stops :

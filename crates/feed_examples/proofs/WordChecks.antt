@@ -26,8 +26,8 @@ abbrev pub taken : List Command
 taken = without (codes "--stats" ∷ []) plan ∷ check ∷ []
 
 -- what the words of a text ask for
-abbrev pub asked : List ℕ → Result Request UsageFault
-asked text = read_words taken (spaced text)
+abbrev pub read_text : List ℕ → Result Request UsageFault
+read_text text = read_words taken (spaced text)
 
 -- a plan from A to C on 2025-06-02 at 08:00:00
 abbrev plan_with : ℕ → Option (List ℕ) → ℕ → Result Request UsageFault
@@ -80,7 +80,7 @@ times = refl
 
 -- good plans; options and positional words may be mixed
 pub plans :
-    map asked
+    map read_text
     (codes "plan A C 2025-06-02 08:00:00" ∷ codes "plan --rides=1 A C 2025-06-02 08:00:00" ∷ codes "plan A C 2025-06-02 08:00:00 --rides 1"
     ∷ codes "plan A --rides 0 C --rider child 2025-06-02 --within=259200 8:00:00" ∷ codes "plan --rides 08 --within 1 A C 2025-06-02 008:00:00"
     ∷ codes "plan A C 2025-06-02 08:00:00 --rider=-x" ∷ codes "plan A C 2025-06-02 08:00:00 --rider=="
@@ -99,7 +99,7 @@ no_words = refl
 
 -- commands that there are not, words that a command does not take, and too few or too many positional words
 pub wrong_commands :
-    map asked
+    map read_text
     (codes "" ∷ codes "-" ∷ codes "--" ∷ codes "--help" ∷ codes "-h" ∷ codes "--version" ∷ codes "Plan" ∷ codes "plans" ∷ codes "price" ∷ codes "gen 7 2"
     ∷ codes "check A" ∷ codes "check --rides 1" ∷ codes "check " ∷ codes "plan" ∷ codes "plan A C 2025-06-02" ∷ codes "plan A C 2025-06-02 08:00:00 D" ∷ [])
     ≡ wrong ∷ wrong ∷ wrong ∷ wrong ∷ wrong ∷ wrong ∷ wrong ∷ wrong ∷ wrong ∷ wrong ∷ wrong ∷ wrong ∷ wrong ∷ wrong ∷ wrong ∷ wrong ∷ []
@@ -108,7 +108,7 @@ wrong_commands = refl
 
 -- words that begin with `-`, empty words, and options without a value or given twice
 pub wrong_options :
-    map asked
+    map read_text
     (codes "plan A C 2025-06-02 08:00:00 --rides -1" ∷ codes "plan A C 2025-06-02 08:00:00 --rides" ∷ codes "plan A C 2025-06-02 08:00:00 --rides="
     ∷ codes "plan A C 2025-06-02 08:00:00 --rider=" ∷ codes "plan A C 2025-06-02 08:00:00 --rider " ∷ codes "plan A C 2025-06-02 08:00:00 --rider -"
     ∷ codes "plan A C 2025-06-02 08:00:00 --rider --" ∷ codes "plan A C 2025-06-02 08:00:00 --rider --rides 1"
@@ -125,7 +125,7 @@ wrong_options = refl
 
 -- values out of their range, and their order: first the words as a whole, then DATE, TIME, --rides, --within
 pub faults_in_order :
-    map asked
+    map read_text
     (codes "plan A C 2025-02-29 08:00:00" ∷ codes "plan A C 2025-06-02 24:00:00"
     ∷ codes "plan A C 2025-06-02 08:00:00 --rides 9" ∷ codes "plan A C 2025-06-02 08:00:00 --rides=-1" ∷ codes "plan A C 2025-06-02 08:00:00 --rides=1=2"
     ∷ codes "plan A C 2025-06-02 08:00:00 --rides 00000000001" ∷ codes "plan A C 2025-06-02 08:00:00 --rides 4294967297"

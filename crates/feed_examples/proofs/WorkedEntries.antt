@@ -22,7 +22,7 @@ use Rattle.feed_rows.specs.FareChoices.{is_open, is_leg_choice, is_transfer_choi
 use Rattle.feed_rows.specs.FareSums.{transfer_kind, starts_chain, is_charged, amount_of, leg_charge, change_charge, fare_sum}
 use Rattle.feed_rows.specs.JourneyEntries.{IsEntry, rides_price}
 use Rattle.feed_examples.proofs.EntryChecks.{entry_test, entry-by-test}
-use Rattle.feed_examples.specs.BaseFeed.{base, platform, trip, call, ticket, network_rule, transfer_rule, on_the_day, query}
+use Rattle.feed_examples.specs.BaseFeed.{base, platform, trip, call, ticket, network_rule, transfer_rule, on_the_day, query, no_category, of_category}
 
 -- a ride of a trip on 2025-06-02, from one position to another
 abbrev pub ride : ℕ → ℕ → ℕ → Ride
@@ -100,7 +100,7 @@ unfolding entry_test is_ride ride_facts is_active shifts_of calls_of call_at lin
 limits_passed = (entry-by-test _ _ _ refl, entry-by-test _ _ _ refl, entry-by-test _ _ _ refl, entry-by-test _ _ _ refl)
 
 -- then no ticket of the change is taken, nor is it left out where the limit is met
-pub limits_strict : (rides_price (limited 0 1799) (two_rides) (paid (leg 0 0 ∷ leg 1 1 ∷ []) (change 0 2 ∷ [])) (None) ≡ None) × (rides_price (limited 1 899) (two_rides) (paid (leg 0 0 ∷ leg 1 1 ∷ []) (change 0 2 ∷ [])) (None) ≡ None) × (rides_price (limited 2 299) (two_rides) (paid (leg 0 0 ∷ leg 1 1 ∷ []) (change 0 2 ∷ [])) (None) ≡ None) × (rides_price (limited 3 1199) (two_rides) (paid (leg 0 0 ∷ leg 1 1 ∷ []) (change 0 2 ∷ [])) (None) ≡ None) × (rides_price (limited 0 1800) (two_rides) (paid (leg 0 0 ∷ leg 1 1 ∷ []) (None ∷ [])) (None) ≡ None) × (rides_price (limited 1 900) (two_rides) (paid (leg 0 0 ∷ leg 1 1 ∷ []) (None ∷ [])) (None) ≡ None) × (rides_price (limited 2 300) (two_rides) (paid (leg 0 0 ∷ leg 1 1 ∷ []) (None ∷ [])) (None) ≡ None) × (rides_price (limited 3 1200) (two_rides) (paid (leg 0 0 ∷ leg 1 1 ∷ []) (None ∷ [])) (None) ≡ None)
+pub limits_strict : (rides_price (limited 0 1799) (two_rides) (paid (leg 0 0 ∷ leg 1 1 ∷ []) (change 0 2 ∷ [])) no_category ≡ None) × (rides_price (limited 1 899) (two_rides) (paid (leg 0 0 ∷ leg 1 1 ∷ []) (change 0 2 ∷ [])) no_category ≡ None) × (rides_price (limited 2 299) (two_rides) (paid (leg 0 0 ∷ leg 1 1 ∷ []) (change 0 2 ∷ [])) no_category ≡ None) × (rides_price (limited 3 1199) (two_rides) (paid (leg 0 0 ∷ leg 1 1 ∷ []) (change 0 2 ∷ [])) no_category ≡ None) × (rides_price (limited 0 1800) (two_rides) (paid (leg 0 0 ∷ leg 1 1 ∷ []) (None ∷ [])) no_category ≡ None) × (rides_price (limited 1 900) (two_rides) (paid (leg 0 0 ∷ leg 1 1 ∷ []) (None ∷ [])) no_category ≡ None) × (rides_price (limited 2 300) (two_rides) (paid (leg 0 0 ∷ leg 1 1 ∷ []) (None ∷ [])) no_category ≡ None) × (rides_price (limited 3 1200) (two_rides) (paid (leg 0 0 ∷ leg 1 1 ∷ []) (None ∷ [])) no_category ≡ None)
 unfolding entry_test is_ride ride_facts is_active shifts_of calls_of call_at link stop_set legs_of leg_facts stop_areas holds_at network_matches area_matches frame_matches rule_matches is_top_priority is_selected_rule group_matches limit_holds is_candidate suffices is_least_count is_selected_transfer is_arranged goes_on run_start change_at is_open is_leg_choice is_transfer_choice is_leg_paid is_change_paid is_fare_choice transfer_kind starts_chain is_charged amount_of leg_charge change_charge fare_sum
 limits_strict = (refl, refl, refl, refl, refl, refl, refl, refl)
 
@@ -135,7 +135,7 @@ unfolding entry_test is_ride ride_facts is_active shifts_of calls_of call_at lin
 counts = (entry-by-test _ _ _ refl, entry-by-test _ _ _ refl)
 
 -- the greater count is not taken where a lesser one suffices, nor one that is exceeded
-pub counts_strict : (rides_price (three_buses (counted 1 1 ∷ counted 3 2 ∷ [])) (ride 0 0 1 ∷ ride 1 0 1 ∷ ride 2 0 1 ∷ []) (paid (leg 0 0 ∷ leg 0 0 ∷ leg 0 0 ∷ []) (change 1 2 ∷ change 1 2 ∷ [])) (None) ≡ None) × (rides_price (three_buses (counted 1 1 ∷ counted 3 2 ∷ [])) (ride 0 0 1 ∷ ride 1 0 1 ∷ ride 2 0 1 ∷ []) (paid (leg 0 0 ∷ leg 0 0 ∷ leg 0 0 ∷ []) (change 0 1 ∷ change 0 1 ∷ [])) (None) ≡ None) × (rides_price (three_buses (counted 1 1 ∷ counted 3 2 ∷ [])) (ride 0 0 1 ∷ ride 1 0 1 ∷ ride 2 0 1 ∷ []) (paid (leg 0 0 ∷ leg 0 0 ∷ leg 0 0 ∷ []) (change 0 1 ∷ None ∷ [])) (None) ≡ None)
+pub counts_strict : (rides_price (three_buses (counted 1 1 ∷ counted 3 2 ∷ [])) (ride 0 0 1 ∷ ride 1 0 1 ∷ ride 2 0 1 ∷ []) (paid (leg 0 0 ∷ leg 0 0 ∷ leg 0 0 ∷ []) (change 1 2 ∷ change 1 2 ∷ [])) no_category ≡ None) × (rides_price (three_buses (counted 1 1 ∷ counted 3 2 ∷ [])) (ride 0 0 1 ∷ ride 1 0 1 ∷ ride 2 0 1 ∷ []) (paid (leg 0 0 ∷ leg 0 0 ∷ leg 0 0 ∷ []) (change 0 1 ∷ change 0 1 ∷ [])) no_category ≡ None) × (rides_price (three_buses (counted 1 1 ∷ counted 3 2 ∷ [])) (ride 0 0 1 ∷ ride 1 0 1 ∷ ride 2 0 1 ∷ []) (paid (leg 0 0 ∷ leg 0 0 ∷ leg 0 0 ∷ []) (change 0 1 ∷ None ∷ [])) no_category ≡ None)
 unfolding entry_test is_ride ride_facts is_active shifts_of calls_of call_at link stop_set legs_of leg_facts stop_areas holds_at network_matches area_matches frame_matches rule_matches is_top_priority is_selected_rule group_matches limit_holds is_candidate suffices is_least_count is_selected_transfer is_arranged goes_on run_start change_at is_open is_leg_choice is_transfer_choice is_leg_paid is_change_paid is_fare_choice transfer_kind starts_chain is_charged amount_of leg_charge change_charge fare_sum
 counts_strict = (refl, refl, refl)
 
@@ -163,7 +163,7 @@ unfolding entry_test is_ride ride_facts is_active shifts_of calls_of call_at lin
 empty_networks = (entry-by-test _ _ _ refl, entry-by-test _ _ _ refl, entry-by-test _ _ _ refl, entry-by-test _ _ _ refl, entry-by-test _ _ _ refl, entry-by-test _ _ _ refl)
 
 -- the rule for any network is no choice for a bus without priorities, nor where the bus rule has the higher one
-pub empty_networks_strict : (rides_price (any_network false 0) (ride 2 0 1 ∷ []) (paid (leg 1 3 ∷ []) []) (None) ≡ None) × (rides_price (any_network true 1) (ride 2 0 1 ∷ []) (paid (leg 1 3 ∷ []) []) (None) ≡ None)
+pub empty_networks_strict : (rides_price (any_network false 0) (ride 2 0 1 ∷ []) (paid (leg 1 3 ∷ []) []) no_category ≡ None) × (rides_price (any_network true 1) (ride 2 0 1 ∷ []) (paid (leg 1 3 ∷ []) []) no_category ≡ None)
 unfolding entry_test is_ride ride_facts is_active shifts_of calls_of call_at link stop_set legs_of leg_facts stop_areas holds_at network_matches area_matches frame_matches rule_matches is_top_priority is_selected_rule group_matches limit_holds is_candidate suffices is_least_count is_selected_transfer is_arranged goes_on run_start change_at is_open is_leg_choice is_transfer_choice is_leg_paid is_change_paid is_fare_choice transfer_kind starts_chain is_charged amount_of leg_charge change_charge fare_sum
 empty_networks_strict = (refl, refl)
 
@@ -199,7 +199,7 @@ unfolding entry_test is_ride ride_facts is_active shifts_of calls_of call_at lin
 areas_of_platform = (entry-by-test _ _ _ refl, entry-by-test _ _ _ refl)
 
 -- the rail leg has no rule; a platform with rows of its own has not its station's areas, and one without has them
-pub areas_strict : (rides_price (in_areas) (two_rides) (paid (leg 0 0 ∷ leg 0 0 ∷ []) (None ∷ [])) (None) ≡ None) × (rides_price (in_area_of_station) (ride 2 0 1 ∷ []) (paid (leg 0 0 ∷ []) []) (None) ≡ None) × (rides_price (record in_area_of_station { stop_areas = record { area = record { 0 = 0 }; stop = record { 0 = 3 } } ∷ [] }) (ride 2 0 1 ∷ []) (paid (leg 0 0 ∷ []) []) (None) ≡ Some (pos 250))
+pub areas_strict : (rides_price (in_areas) (two_rides) (paid (leg 0 0 ∷ leg 0 0 ∷ []) (None ∷ [])) no_category ≡ None) × (rides_price (in_area_of_station) (ride 2 0 1 ∷ []) (paid (leg 0 0 ∷ []) []) no_category ≡ None) × (rides_price (record in_area_of_station { stop_areas = record { area = record { 0 = 0 }; stop = record { 0 = 3 } } ∷ [] }) (ride 2 0 1 ∷ []) (paid (leg 0 0 ∷ []) []) no_category ≡ Some (pos 250))
 unfolding entry_test is_ride ride_facts is_active shifts_of calls_of call_at link stop_set legs_of leg_facts stop_areas holds_at network_matches area_matches frame_matches rule_matches is_top_priority is_selected_rule group_matches limit_holds is_candidate suffices is_least_count is_selected_transfer is_arranged goes_on run_start change_at is_open is_leg_choice is_transfer_choice is_leg_paid is_change_paid is_fare_choice transfer_kind starts_chain is_charged amount_of leg_charge change_charge fare_sum
 areas_strict = (refl, refl, refl)
 
@@ -227,7 +227,7 @@ unfolding entry_test is_ride ride_facts is_active shifts_of calls_of call_at lin
 frame_edge = (entry-by-test _ _ _ refl, entry-by-test _ _ _ refl)
 
 -- and not at its end
-pub frame_edge_strict : (rides_price (in_frames) (ride 1 0 1 ∷ []) (paid (leg 0 0 ∷ []) []) (None) ≡ None) × (rides_price (in_frames) (ride 0 0 1 ∷ []) (paid (leg 1 1 ∷ []) []) (None) ≡ None)
+pub frame_edge_strict : (rides_price (in_frames) (ride 1 0 1 ∷ []) (paid (leg 0 0 ∷ []) []) no_category ≡ None) × (rides_price (in_frames) (ride 0 0 1 ∷ []) (paid (leg 1 1 ∷ []) []) no_category ≡ None)
 unfolding entry_test is_ride ride_facts is_active shifts_of calls_of call_at link stop_set legs_of leg_facts stop_areas holds_at network_matches area_matches frame_matches rule_matches is_top_priority is_selected_rule group_matches limit_holds is_candidate suffices is_least_count is_selected_transfer is_arranged goes_on run_start change_at is_open is_leg_choice is_transfer_choice is_leg_paid is_change_paid is_fare_choice transfer_kind starts_chain is_charged amount_of leg_charge change_charge fare_sum
 frame_edge_strict = (refl, refl)
 
@@ -256,7 +256,7 @@ unfolding entry_test is_ride ride_facts is_active shifts_of calls_of call_at lin
 midnight = entry-by-test _ _ _ refl
 
 -- so the group of the service day does not hold
-pub midnight_strict : (rides_price (after_midnight) (night_ride ∷ []) (paid (leg 0 0 ∷ []) []) (None) ≡ None)
+pub midnight_strict : (rides_price (after_midnight) (night_ride ∷ []) (paid (leg 0 0 ∷ []) []) no_category ≡ None)
 unfolding entry_test is_ride ride_facts is_active shifts_of calls_of call_at link stop_set legs_of leg_facts stop_areas holds_at network_matches area_matches frame_matches rule_matches is_top_priority is_selected_rule group_matches limit_holds is_candidate suffices is_least_count is_selected_transfer is_arranged goes_on run_start change_at is_open is_leg_choice is_transfer_choice is_leg_paid is_change_paid is_fare_choice transfer_kind starts_chain is_charged amount_of leg_charge change_charge fare_sum
 midnight_strict = refl
 
@@ -373,7 +373,7 @@ with_riders =
     }
 
 abbrev child : Query
-child = record morning { rider = Some (record { 0 = 1 }) }
+child = record morning { buyer = of_category 1 }
 
 -- a row of a category is open to its riders
 pub rider_rows : IsEntry (with_riders) (child) (by_two_rides (pos 170) (change 0 2 ∷ [])) × IsEntry (with_riders) (child) (entry 0 2 32400 1 (pos 120) (ride 2 0 1 ∷ []) (leg 0 0 ∷ []) [])
@@ -381,6 +381,6 @@ unfolding entry_test is_ride ride_facts is_active shifts_of calls_of call_at lin
 rider_rows = (entry-by-test _ _ _ refl, entry-by-test _ _ _ refl)
 
 -- and to no others, nor without a category
-pub rider_rows_strict : (rides_price (with_riders) (two_rides) (paid (leg 0 0 ∷ leg 1 1 ∷ []) (change 0 2 ∷ [])) (Some (record { 0 = 0 })) ≡ None) × (rides_price (with_riders) (two_rides) (paid (leg 0 0 ∷ leg 1 1 ∷ []) (change 0 2 ∷ [])) (None) ≡ None)
+pub rider_rows_strict : (rides_price (with_riders) (two_rides) (paid (leg 0 0 ∷ leg 1 1 ∷ []) (change 0 2 ∷ [])) (of_category 0) ≡ None) × (rides_price (with_riders) (two_rides) (paid (leg 0 0 ∷ leg 1 1 ∷ []) (change 0 2 ∷ [])) no_category ≡ None)
 unfolding entry_test is_ride ride_facts is_active shifts_of calls_of call_at link stop_set legs_of leg_facts stop_areas holds_at network_matches area_matches frame_matches rule_matches is_top_priority is_selected_rule group_matches limit_holds is_candidate suffices is_least_count is_selected_transfer is_arranged goes_on run_start change_at is_open is_leg_choice is_transfer_choice is_leg_paid is_change_paid is_fare_choice transfer_kind starts_chain is_charged amount_of leg_charge change_charge fare_sum
 rider_rows_strict = (refl, refl)

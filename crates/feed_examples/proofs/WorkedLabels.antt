@@ -11,6 +11,7 @@ use Rattle.std.proofs.lemmas.List.Sums.{AllPass-from_list_all}
 use Rattle.transit_base.specs.declared.numbers.StopId.{StopId}
 use Rattle.plain_laws.specs.Plain.{all_below}
 use Rattle.plain_laws.proofs.Laws.{all_below-at}
+use Rattle.feed_rows.specs.declared.journeys.Buyer.{Buyer}
 use Rattle.feed_rows.specs.declared.journeys.Query.{Query}
 use Rattle.feed_rows.specs.declared.journeys.Ride.{Ride}
 use Rattle.feed_rows.specs.ServiceDays.{is_active}
@@ -24,7 +25,6 @@ use Rattle.feed_rows.specs.JourneyEntries.{rides_price}
 use Rattle.feed_rows.specs.PartialJourneys.{PartialJourney, IsPartialJourney, LabelFacts, journey_to, arrives_in_window, label_facts}
 use Rattle.feed_rows.specs.LabelCover.{Covers}
 use Rattle.feed_rows.specs.Completions.{Completes, IsCompletion}
-use Rattle.transit_base.specs.declared.numbers.RiderId.{RiderId}
 use Rattle.feed_rows.specs.declared.fares.Triple.{Triple}
 use Rattle.feed_rows.specs.declared.rows.ProductRow.{ProductRow}
 use Rattle.feed_rows.specs.FareFloor.{fare_floor, is_outdone}
@@ -40,7 +40,7 @@ use Rattle.feed_rows.specs.FareSums.{transfer_kind, starts_chain, is_charged, am
 use Rattle.feed_rows.specs.LegRules.{network_matches, area_matches, frame_matches, rule_matches, is_top_priority, is_selected_rule}
 use Rattle.feed_rows.specs.FareChoices.{is_open, is_leg_choice, is_transfer_choice, is_leg_paid, is_change_paid, is_fare_choice}
 use Rattle.feed_rows.specs.FareStates.{held_amount, paid_amount, greatest_count, is_clock_read, fare_state}
-use Rattle.feed_examples.specs.BaseFeed.{base, ticket, network_rule, transfer_rule, on_the_day, query}
+use Rattle.feed_examples.specs.BaseFeed.{base, ticket, network_rule, transfer_rule, on_the_day, query, no_category, of_category}
 use Rattle.feed_examples.proofs.WorkedEntries.{ride, entry, leg, change, paid, two_rides, morning, by_two_rides, by_one_ride, base_entries}
 use Rattle.feed_examples.proofs.WorkedStates.{state, bus_to_rail, free_row, one_choice, two_choice, taken, by_change, bus_ticket, rail_state}
 
@@ -96,7 +96,7 @@ partial_test feed query part =
     && catches_first feed query (journey_to part.first part)
     && all_below (length part.rides - 1) (catches_next feed part.rides)
     && list_all (arrives_in_window feed query) part.rides
-    && is_some (rides_price feed part.rides part.choice query.rider)
+    && is_some (rides_price feed part.rides part.choice query.buyer)
 
 -- then it is one of the query
 pub partial-by-test : (feed : FeedRows) (query : Query) (part : PartialJourney) → partial_test feed query part ≡ true → IsPartialJourney feed query part
@@ -279,19 +279,19 @@ low_feed =
           ∷ record (amount_row 2 (negsuc 999)) { rider = Some (record { 0 = 0 }) } ∷ [];
     }
 
-abbrev pub child : Option RiderId
-child = Some (record { 0 = 0 })
+abbrev pub child : Buyer
+child = of_category 0
 
 record FloorChecks : Type 0 where
-  pub base_floor : fare_floor base None ≡ pos 0
-  pub bonus : fare_floor bonus_feed None ≡ negsuc 199
+  pub base_floor : fare_floor base no_category ≡ pos 0
+  pub bonus : fare_floor bonus_feed no_category ≡ negsuc 199
   -- the least of each part, and the parts together
-  pub both_parts : fare_floor low_feed None ≡ negsuc 34
+  pub both_parts : fare_floor low_feed no_category ≡ negsuc 34
   pub for_children : fare_floor low_feed child ≡ negsuc 1099
   -- rows without product, and feeds without rows
-  pub no_product : fare_floor (record low_feed { transfer_rules = free_row ∷ [] }) None ≡ negsuc 29
-  pub no_rows : fare_floor (record low_feed { products = [] }) None ≡ pos 0
-  pub no_rules : fare_floor (record low_feed { leg_rules = [] }) None ≡ negsuc 4
+  pub no_product : fare_floor (record low_feed { transfer_rules = free_row ∷ [] }) no_category ≡ negsuc 29
+  pub no_rows : fare_floor (record low_feed { products = [] }) no_category ≡ pos 0
+  pub no_rules : fare_floor (record low_feed { leg_rules = [] }) no_category ≡ negsuc 4
 
 floor_checks : FloorChecks
 unfolding fare_floor is_open

@@ -17,7 +17,7 @@ use Rattle.feed_rows.specs.LegRules.{network_matches, area_matches, frame_matche
 use Rattle.feed_rows.specs.FareChoices.{is_open, is_leg_choice}
 use Rattle.feed_rows.specs.FareSteps.{is_arranged_after, is_row_after, move_of_first, move_of_next, move_after}
 use Rattle.feed_rows.specs.FareStates.{held_amount, paid_amount, greatest_count, is_clock_read, fare_state}
-use Rattle.feed_examples.specs.BaseFeed.{base, ticket, network_rule, transfer_rule, on_the_day}
+use Rattle.feed_examples.specs.BaseFeed.{base, ticket, network_rule, transfer_rule, on_the_day, no_category}
 use Rattle.feed_examples.proofs.WorkedEntries.{leg, change, free_change, paid}
 use Rattle.feed_examples.proofs.CornerFares.{chain}
 
@@ -268,7 +268,7 @@ followed state paid held move = Some (record move { state = state; paid = record
 
 -- T1 as a first leg
 abbrev pub start : Move → Option Move
-start move = move_after base None None (pos 999) leg_1 move
+start move = move_after base no_category None (pos 999) leg_1 move
 
 record StartChecks : Type 0 where
   -- the ticket of T1 is held, whatever is said of amounts held before
@@ -290,7 +290,7 @@ start_checks = record {
 
 -- T2 after T1, with these transfer rules
 abbrev pub after_first : List TransferRuleRow → Move → Option Move
-after_first rows move = move_after (with_rules rows) None (Some (state (Some 0) 0 None None true)) (pos 250) leg_2 move
+after_first rows move = move_after (with_rules rows) no_category (Some (state (Some 0) 0 None None true)) (pos 250) leg_2 move
 
 abbrev pub by_change : Move
 by_change = taken 1 1 (Some 0) (Some 2)
@@ -351,7 +351,7 @@ early_leg network = record (leg_at network 0 0) { departure = record { 0 = pos 1
 -- that leg after a bus with these clocks, with a free row from bus to rail within so many seconds of this type
 abbrev pub early : ℕ → ℕ → Option ℤ → Option ℤ → Move → Option Move
 early seconds kind departure arrival move =
-    move_after (with_rules (record free_row { limit = limit_of seconds kind } ∷ [])) None
+    move_after (with_rules (record free_row { limit = limit_of seconds kind } ∷ [])) no_category
     (Some (record (state (Some 0) 0 None None true) {
       departure = option_map (λ t. record { 0 = t }) departure;
       arrival = option_map (λ t. record { 0 = t }) arrival;
@@ -398,7 +398,7 @@ clock_checks = record {
 
 -- bus_2 after this state, with these rules
 abbrev pub next_bus : List TransferRuleRow → FareState → ℤ → Move → Option Move
-next_bus rows from held move = move_after (with_rules rows) None (Some from) held bus_2 move
+next_bus rows from held move = move_after (with_rules rows) no_category (Some from) held bus_2 move
 
 -- the free row of this number
 abbrev pub bus_by : ℕ → Move
@@ -437,7 +437,7 @@ record RunChecks : Type 0 where
       × (next_bus (any_to_any None ∷ []) (state None 0 None None true) (pos 250) (bus_by 0) ≡ None)
   -- between groups the count is 1, however long the run
   pub between_groups :
-      move_after (with_rules (any_to_any (Some 1) ∷ [])) None (Some (state (Some 0) 2 None None false)) (pos 0) leg_2 by_free
+      move_after (with_rules (any_to_any (Some 1) ∷ [])) no_category (Some (state (Some 0) 2 None None false)) (pos 0) leg_2 by_free
       ≡ followed (state (Some 1) 0 None None false) (pos 0) (pos 0) by_free
   -- amounts below 0: what is held is taken back by type 2, and else paid
   pub negative :
@@ -446,7 +446,7 @@ record RunChecks : Type 0 where
       × (next_bus [] (state (Some 0) 0 None None true) (negsuc 99) bus_ticket
       ≡ followed (state (Some 0) 0 None None true) (negsuc 99) (pos 250) bus_ticket)
       × (move_after (record (with_rules (bus_to_rail 2 ∷ [])) { products = ticket 0 250 ∷ ticket 1 400 ∷ record (ticket 2 0) { amount = record { 0 = negsuc 199 } } ∷ [] })
-      None (Some (state (Some 0) 0 None None true)) (pos 250) leg_2 by_change
+      no_category (Some (state (Some 0) 0 None None true)) (pos 250) leg_2 by_change
       ≡ followed (rail_state false) (negsuc 199) (pos 0) by_change)
 
 run_checks : RunChecks

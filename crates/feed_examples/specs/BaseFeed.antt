@@ -6,6 +6,7 @@ use Rattle.feed_rows.specs.declared.rows.StopTimeRow.{StopTimeRow}
 use Rattle.feed_rows.specs.declared.rows.ProductRow.{ProductRow}
 use Rattle.feed_rows.specs.declared.rows.LegRuleRow.{LegRuleRow}
 use Rattle.feed_rows.specs.declared.rows.TransferRuleRow.{TransferRuleRow}
+use Rattle.feed_rows.specs.declared.journeys.Buyer.{Buyer}
 use Rattle.feed_rows.specs.declared.journeys.Query.{Query}
 use Rattle.feed_rows.specs.FeedRows.{FeedRows}
 use Rattle.transit_base.specs.declared.ProductId.{ProductId}
@@ -93,6 +94,13 @@ base =
       decimals = 2;
     }
 
+-- who buys without a rider category, and who buys as one of the category with this number
+abbrev pub no_category : Buyer
+no_category = record { rider = None }
+
+abbrev pub of_category : ℕ → Buyer
+of_category number = record { rider = Some (record { 0 = number }) }
+
 -- so many seconds after the start of 2025-06-02
 abbrev pub on_the_day : ℕ → ℕ
 on_the_day seconds = 20241 * 86400 + seconds
@@ -106,5 +114,5 @@ query from to time =
       departure = record { 0 = pos (on_the_day time) };
       rides = 4;
       window = 86400;
-      rider = None;
+      buyer = no_category;
     }

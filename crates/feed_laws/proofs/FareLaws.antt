@@ -6,13 +6,14 @@ use Rattle.transit_base.specs.declared.numbers.LegGroupId.{LegGroupId}
 use Rattle.feed_rows.specs.FeedRows.{FeedRows}
 use Rattle.plain_laws.specs.Plain.{filled_and}
 use Rattle.feed_rows.specs.TransferRules.{FareLeg, same_group, goes_on, run_start, change_at, IsRun}
-use Rattle.feed_rows.specs.FareStands.{Run, fresh_run, change_to, extends, next_run, IsRunAt}
+use Rattle.feed_rows.specs.FareSteps.{Run, change_to}
+use Rattle.feed_rows.specs.FareStands.{fresh_run, extends, next_run, IsRunAt}
 use Rattle.feed_laws.proofs.TransferLaws.{run_start-on, run_start-off, run_start-zero, run_start-run, run-off}
 
 -- ---- the group of a run
 
 -- groups that are the same are equal
-same_group-equal : (a b : Option LegGroupId) → same_group a b ≡ true → a ≡ b
+pub same_group-equal : (a b : Option LegGroupId) → same_group a b ≡ true → a ≡ b
 same_group-equal None b same = absurd (cc)
 same_group-equal (Some g) None same = absurd (cc)
 same_group-equal (Some g) (Some h) same = ap (λ n. Some (record { 0 = n })) (eqb-true g.0 h.0 same)

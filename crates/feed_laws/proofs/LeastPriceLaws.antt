@@ -1,7 +1,7 @@
 -- The least price of rides is the least price of their legs.
 use Rattle.std.proofs.Common.{◌≡◌, sym, ◌∙◌, ap, List}
 use Rattle.std.specs.Prelude.{Option, Some, None, ℤ, option_and_then}
-use Rattle.transit_base.specs.declared.numbers.RiderId.{RiderId}
+use Rattle.feed_rows.specs.declared.journeys.Buyer.{Buyer}
 use Rattle.feed_rows.specs.declared.journeys.LegFacts.{LegFacts}
 use Rattle.feed_rows.specs.declared.journeys.Ride.{Ride}
 use Rattle.feed_rows.specs.declared.fares.Choice.{Choice}
@@ -24,39 +24,39 @@ HasNoPrice-same : (f g : Choice → Option ℤ) → ((c : Choice) → f c ≡ g 
 HasNoPrice-same f g same none choice = sym (same choice) ∙ none choice
 
 -- a choice pays rides as it pays their legs
-pub rides_price-legs : (feed : FeedRows) (rides : List Ride) (legs : List LegFacts) (rider : Option RiderId) →
+pub rides_price-legs : (feed : FeedRows) (rides : List Ride) (legs : List LegFacts) (buyer : Buyer) →
     legs_of feed rides ≡ Some legs →
-    (choice : Choice) → rides_price feed rides choice rider ≡ fare_price feed legs choice rider
-rides_price-legs feed rides legs rider is choice = ap
-    (λ (o : Option (List LegFacts)). option_and_then (λ ls. fare_price feed ls choice rider) o) is
+    (choice : Choice) → rides_price feed rides choice buyer ≡ fare_price feed legs choice buyer
+rides_price-legs feed rides legs buyer is choice = ap
+    (λ (o : Option (List LegFacts)). option_and_then (λ ls. fare_price feed ls choice buyer) o) is
 
 -- the least price of rides is that of their legs
-pub least_price_of_legs : (feed : FeedRows) (rides : List Ride) (legs : List LegFacts) (rider : Option RiderId) →
+pub least_price_of_legs : (feed : FeedRows) (rides : List Ride) (legs : List LegFacts) (buyer : Buyer) →
     legs_of feed rides ≡ Some legs →
-    (choice : Choice) (price : ℤ) → IsLeastPrice feed rides rider choice price →
-    IsLeastPriceOfLegs feed legs rider choice price
-least_price_of_legs feed rides legs rider is = IsLeastBy-same _ _ (rides_price-legs feed rides legs rider is)
+    (choice : Choice) (price : ℤ) → IsLeastPrice feed rides buyer choice price →
+    IsLeastPriceOfLegs feed legs buyer choice price
+least_price_of_legs feed rides legs buyer is = IsLeastBy-same _ _ (rides_price-legs feed rides legs buyer is)
 
-pub least_price_of_rides : (feed : FeedRows) (rides : List Ride) (legs : List LegFacts) (rider : Option RiderId) →
+pub least_price_of_rides : (feed : FeedRows) (rides : List Ride) (legs : List LegFacts) (buyer : Buyer) →
     legs_of feed rides ≡ Some legs →
-    (choice : Choice) (price : ℤ) → IsLeastPriceOfLegs feed legs rider choice price →
-    IsLeastPrice feed rides rider choice price
-least_price_of_rides feed rides legs rider is = IsLeastBy-same _ _
-    (λ c. sym (rides_price-legs feed rides legs rider is c))
+    (choice : Choice) (price : ℤ) → IsLeastPriceOfLegs feed legs buyer choice price →
+    IsLeastPrice feed rides buyer choice price
+least_price_of_rides feed rides legs buyer is = IsLeastBy-same _ _
+    (λ c. sym (rides_price-legs feed rides legs buyer is c))
 
 -- rides are uncovered where their legs are
-pub uncovered_legs : (feed : FeedRows) (rides : List Ride) (legs : List LegFacts) (rider : Option RiderId) →
+pub uncovered_legs : (feed : FeedRows) (rides : List Ride) (legs : List LegFacts) (buyer : Buyer) →
     legs_of feed rides ≡ Some legs →
-    IsUncovered feed rides rider → AreUncoveredLegs feed legs rider
-uncovered_legs feed rides legs rider is = HasNoPrice-same _ _ (rides_price-legs feed rides legs rider is)
+    IsUncovered feed rides buyer → AreUncoveredLegs feed legs buyer
+uncovered_legs feed rides legs buyer is = HasNoPrice-same _ _ (rides_price-legs feed rides legs buyer is)
 
-pub uncovered_rides : (feed : FeedRows) (rides : List Ride) (legs : List LegFacts) (rider : Option RiderId) →
+pub uncovered_rides : (feed : FeedRows) (rides : List Ride) (legs : List LegFacts) (buyer : Buyer) →
     legs_of feed rides ≡ Some legs →
-    AreUncoveredLegs feed legs rider → IsUncovered feed rides rider
-uncovered_rides feed rides legs rider is = HasNoPrice-same _ _ (λ c. sym (rides_price-legs feed rides legs rider is c))
+    AreUncoveredLegs feed legs buyer → IsUncovered feed rides buyer
+uncovered_rides feed rides legs buyer is = HasNoPrice-same _ _ (λ c. sym (rides_price-legs feed rides legs buyer is c))
 
 -- rides that have a least price are rides of the feed, since without legs no choice pays them
-pub uncovered_without_legs : (feed : FeedRows) (rides : List Ride) (rider : Option RiderId) →
-    legs_of feed rides ≡ None → IsUncovered feed rides rider
-uncovered_without_legs feed rides rider none choice = ap
-    (λ (o : Option (List LegFacts)). option_and_then (λ ls. fare_price feed ls choice rider) o) none
+pub uncovered_without_legs : (feed : FeedRows) (rides : List Ride) (buyer : Buyer) →
+    legs_of feed rides ≡ None → IsUncovered feed rides buyer
+uncovered_without_legs feed rides buyer none choice = ap
+    (λ (o : Option (List LegFacts)). option_and_then (λ ls. fare_price feed ls choice buyer) o) none

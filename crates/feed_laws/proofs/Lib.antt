@@ -1,3 +1,4 @@
+pub mod ActiveDays
 pub mod CallLaws
 pub mod CallTimes
 pub mod ChoiceLaws
@@ -12,6 +13,7 @@ pub mod OpenRowLaws
 pub mod ParetoLaws
 pub mod PriceQueryLaws
 pub mod RideLaws
+pub mod SameStates
 pub mod SelectionLaws
 pub mod SequenceLaws
 pub mod ShiftLaws

@@ -1,7 +1,7 @@
 -- What is read from words, and what is not, taken apart: the rides of a query of prices are rides of the feed, each caught
 -- from the one before, and the fault tells the first that isn't.
 use Rattle.std.proofs.Common.{◌≡◌, refl, sym, ◌∙◌, ap, subst, ℕ, ◌+◌, ◌-◌, ◌<◌, ◌⊎◌, inl, inr, Bool, true, false, not, List, length, get_or, arith}
-use Rattle.std.specs.Prelude.{Option, Some, None, Result, Ok, Err, is_none, slice_get, IsTrue, All, ℤ}
+use Rattle.std.specs.Prelude.{Option, Some, None, Result, Ok, Err, is_none, option_map, slice_get, IsTrue, All, ℤ}
 use Rattle.std.proofs.lemmas.Bool.{not-false}
 use Rattle.std.proofs.lemmas.Option.{same_Some, none-some, option_and_then_some, slice_get-get_or}
 use Rattle.transit_base.specs.declared.numbers.TripId.{TripId}
@@ -15,11 +15,25 @@ use Rattle.feed_rows.specs.FeedRows.{FeedRows}
 use Rattle.feed_rows.specs.Rides.{is_ride}
 use Rattle.feed_rows.specs.Journeys.{catches_next}
 use Rattle.feed_rows.specs.RideWords.{RideWord}
-use Rattle.feed_rows.specs.Queries.{find_trip, chosen_rider}
+use Rattle.feed_rows.specs.Queries.{find_trip, has_trip_id, chosen_rider}
 use Rattle.feed_rows.specs.Requests.{PriceRequest}
 use Rattle.feed_rows.specs.PriceQueries.{PriceQuery, named_shift, call_position, named_ride, named_rides, first_missed, unless_missed, price_query_of}
 use Rattle.feed_rows.specs.PriceTexts.{AreJoinedRides}
-use Rattle.plain_laws.proofs.Laws.{collect_below_tells, collect_below_some, IsCollected, find_below_cases, IsFirst, NonePass}
+use Rattle.plain_laws.proofs.Laws.{collect_below_tells, collect_below_some, IsCollected, find_below_cases, find_below_tells, IsFirst, NonePass}
+
+-- a trip that is found is one of the feed
+pub trip_within : (feed : FeedRows) (id : List ℕ) (trip : TripId) → find_trip feed id ≡ Some trip →
+    trip.0 < length feed.trips
+trip_within feed id trip is = by (find_below (length feed.trips) (has_trip_id feed id)) refl is
+  where
+    by : (o : Option ℕ) → find_below (length feed.trips) (has_trip_id feed id) ≡ o →
+        option_map (λ i. record { 0 = i }) o ≡ Some trip → trip.0 < length feed.trips
+    by None found e = absurd (none-some trip e)
+    by (Some i) found e =
+        let first = find_below_tells (has_trip_id feed id) (length feed.trips) i found in
+        let same : record { 0 = i } ≡ trip = same_Some (record { 0 = i }) trip e in
+        let number : i ≡ trip.0 = ap (λ (t : TripId). t.0) same in
+        rw (← number) first.within
 
 -- the ride that the parts of a word make
 abbrev ride_named : RideWord → TripId → ℤ → ℕ → ℕ → Ride
@@ -133,8 +147,8 @@ priced_rides_join feed request query e =
     let named = unless_fault_ok (named_rides feed request.rides) _ query e in
     let followed = unless_fault_ok (unless_missed named.0 (first_missed feed named.0)) _ query named.2 in
     let rider = unless_fault_ok (chosen_rider feed request.rider) _ query followed.2 in
-    let made : Ok (record { rides = followed.0; rider = rider.0 }) ≡ Ok query = rider.2 in
-    let made_is : record { rides = followed.0; rider = rider.0 } ≡ query = cc in
+    let made : Ok (record { rides = followed.0; buyer = record { rider = rider.0 } }) ≡ Ok query = rider.2 in
+    let made_is : record { rides = followed.0; buyer = record { rider = rider.0 } } ≡ query = cc in
     let is : followed.0 ≡ query.rides = ap (λ q. q.rides) made_is in
     let kept = none_missed feed named.0 followed.0 followed.1 in
     subst (AreJoinedRides feed) (kept.0 ∙ is) (record {

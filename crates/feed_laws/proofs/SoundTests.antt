@@ -39,8 +39,8 @@ same_rider o p = same_field (λ id. id.0) (λ x y e. ap (λ n. record { 0 = n })
 abbrev same_medium : (o p : Option MediumId) → Test (o ≡ p)
 same_medium o p = same_field (λ id. id.0) (λ x y e. ap (λ n. record { 0 = n }) e) o p
 
-abbrev same_group : (o p : Option LegGroupId) → Test (o ≡ p)
-same_group o p = same_field (λ id. id.0) (λ x y e. ap (λ n. record { 0 = n }) e) o p
+abbrev equal_group : (o p : Option LegGroupId) → Test (o ≡ p)
+equal_group o p = same_field (λ id. id.0) (λ x y e. ap (λ n. record { 0 = n }) e) o p
 
 -- the names of services, of networks or the like
 abbrev name_list : (names : List (List ℕ)) → Option (IsNameList names)
@@ -304,7 +304,7 @@ transfer_rules_test feed =
     ask (each feed.transfer_rules (λ r. for_some r.to (λ g. below g.0 (length feed.group_names)))) (λ tos.
     ask (each feed.transfer_rules (λ r. for_some r.product (λ p. below p.0 (length feed.product_names)))) (λ products.
     ask (each feed.transfer_rules (λ r. at_most r.kind 2)) (λ kinds.
-    ask (each feed.transfer_rules (λ r. for_some r.count (λ n. same_group r.from r.to))) (λ counted.
+    ask (each feed.transfer_rules (λ r. for_some r.count (λ n. equal_group r.from r.to))) (λ counted.
     ask (each feed.transfer_rules (λ r. for_some r.count (λ n. both (at_most 1 n) (at_most n 2_147_483_647)))) (λ counts.
     ask (each feed.transfer_rules (λ r. for_some r.limit (λ l. both (at_most 1 l.seconds) (at_most l.seconds 2_147_483_647)))) (λ limits.
     ask (each feed.transfer_rules (λ r. for_some r.limit (λ l. at_most l.kind 3))) (λ limit_kinds.

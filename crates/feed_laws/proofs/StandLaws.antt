@@ -7,7 +7,7 @@ use Rattle.std.proofs.lemmas.Int.{ints}
 use Rattle.std.proofs.lemmas.Bool.{and_parts, eqb-true}
 use Rattle.std.proofs.lemmas.List.{length_push}
 use Rattle.std.proofs.lemmas.Option.{same_Some, cond_some}
-use Rattle.transit_base.specs.declared.numbers.RiderId.{RiderId}
+use Rattle.feed_rows.specs.declared.journeys.Buyer.{Buyer}
 use Rattle.feed_rows.specs.declared.journeys.LegFacts.{LegFacts}
 use Rattle.feed_rows.specs.declared.rows.LegRuleRow.{LegRuleRow}
 use Rattle.feed_rows.specs.declared.fares.ChangeChoice.{ChangeChoice}
@@ -18,7 +18,8 @@ use Rattle.plain_laws.specs.Plain.{when}
 use Rattle.feed_rows.specs.TransferRules.{FareLeg, change_at}
 use Rattle.feed_rows.specs.FareChoices.{chosen_leg, fare_leg, is_leg_choice, is_change_choice, is_leg_paid, is_fare_choice}
 use Rattle.feed_rows.specs.FareSums.{amount_of, fare_sum, fare_price}
-use Rattle.feed_rows.specs.FareStands.{Run, change_to, next_run, IsRunAt, frees_next, frees_first, next_held, next_paid, place_kind, place_charge, FareStand, stand_price, stand_of_first, stand_of_next, first_fare_stand, next_fare_stand, stand_at, IsStandOf}
+use Rattle.feed_rows.specs.FareSteps.{Run, change_to, frees_next, frees_first, next_held, next_paid, place_kind, place_charge}
+use Rattle.feed_rows.specs.FareStands.{next_run, IsRunAt, FareStand, stand_of_first, stand_of_next, first_fare_stand, next_fare_stand, stand_at, IsStandOf}
 use Rattle.plain_laws.proofs.Laws.{slice_get-append_left, slice_get-push_last, slice_get-old_item, slice_get-new_item}
 use Rattle.feed_laws.proofs.FareLaws.{run_of_first}
 use Rattle.feed_laws.proofs.SumLaws.{IsPushed, next_total, next_paid-total, fare_sum-push, fare_sum-first, held_at-push, held_at-first}
@@ -31,23 +32,23 @@ abbrev pub choice_of_one : LegChoice → Choice
 choice_of_one pick = record { legs = pick ∷ []; changes = [] }
 
 -- a choice for a leg names a rule
-rule_of_choice : (feed : FeedRows) (rider : Option RiderId) (leg : LegFacts) (pick : LegChoice) →
-    slice_get feed.leg_rules pick.rule.0 ≡ None → is_leg_choice feed rider leg pick ≡ false
+rule_of_choice : (feed : FeedRows) (buyer : Buyer) (leg : LegFacts) (pick : LegChoice) →
+    slice_get feed.leg_rules pick.rule.0 ≡ None → is_leg_choice feed buyer leg pick ≡ false
 unfolding is_leg_choice
-rule_of_choice feed rider leg pick none = rw none refl
+rule_of_choice feed buyer leg pick none = rw none refl
 
-leg_of_one : (feed : FeedRows) (leg : LegFacts) (pick : LegChoice) (rider : Option RiderId) →
-    is_leg_paid feed (leg ∷ []) (choice_of_one pick) rider 0 ≡ is_leg_choice feed rider leg pick
+leg_of_one : (feed : FeedRows) (leg : LegFacts) (pick : LegChoice) (buyer : Buyer) →
+    is_leg_paid feed (leg ∷ []) (choice_of_one pick) buyer 0 ≡ is_leg_choice feed buyer leg pick
 unfolding is_leg_paid
-leg_of_one feed leg pick rider = refl
+leg_of_one feed leg pick buyer = refl
 
 -- one leg is paid where fares stand somewhere after it
-pub first_fare_stand-paid : (feed : FeedRows) (rider : Option RiderId) (leg : LegFacts) (pick : LegChoice) →
-    is_fare_choice feed (leg ∷ []) (choice_of_one pick) rider ≡ is_some (first_fare_stand feed rider leg pick)
+pub first_fare_stand-paid : (feed : FeedRows) (buyer : Buyer) (leg : LegFacts) (pick : LegChoice) →
+    is_fare_choice feed (leg ∷ []) (choice_of_one pick) buyer ≡ is_some (first_fare_stand feed buyer leg pick)
 unfolding first_fare_stand
-first_fare_stand-paid feed rider leg pick =
-    is_fare_choice_by_places feed (leg ∷ []) (choice_of_one pick) rider 0 refl refl refl
-    ∙ alone _ _ (leg_of_one feed leg pick rider)
+first_fare_stand-paid feed buyer leg pick =
+    is_fare_choice_by_places feed (leg ∷ []) (choice_of_one pick) buyer 0 refl refl refl
+    ∙ alone _ _ (leg_of_one feed leg pick buyer)
     ∙ by (slice_get feed.leg_rules pick.rule.0) refl
   where
     alone : (a b : Bool) → a ≡ b → ((true && a) && true) ≡ b
@@ -59,19 +60,19 @@ first_fare_stand-paid feed rider leg pick =
     kept false stand = refl
 
     by : (o : Option LegRuleRow) → slice_get feed.leg_rules pick.rule.0 ≡ o →
-        is_leg_choice feed rider leg pick
+        is_leg_choice feed buyer leg pick
         ≡ is_some {T = FareStand} (option_and_then
-        (λ first. when (is_leg_choice feed rider leg pick) (stand_of_first feed first pick))
+        (λ first. when (is_leg_choice feed buyer leg pick) (stand_of_first feed first pick))
         (option_map (λ rule. record { group = rule.group; departure = leg.departure; arrival = leg.arrival }) o))
-    by None is = rule_of_choice feed rider leg pick is
-    by (Some rule) is = kept (is_leg_choice feed rider leg pick) _
+    by None is = rule_of_choice feed buyer leg pick is
+    by (Some rule) is = kept (is_leg_choice feed buyer leg pick) _
 
 -- then they stand as the choice of that leg says
-pub first_fare_stand-of : (feed : FeedRows) (rider : Option RiderId) (leg : LegFacts) (pick : LegChoice)
+pub first_fare_stand-of : (feed : FeedRows) (buyer : Buyer) (leg : LegFacts) (pick : LegChoice)
     (stand : FareStand) →
-    first_fare_stand feed rider leg pick ≡ Some stand → IsStandOf feed (leg ∷ []) (choice_of_one pick) 0 stand
+    first_fare_stand feed buyer leg pick ≡ Some stand → IsStandOf feed (leg ∷ []) (choice_of_one pick) 0 stand
 unfolding first_fare_stand
-first_fare_stand-of feed rider leg pick stand e = by (chosen_leg feed leg pick) refl e
+first_fare_stand-of feed buyer leg pick stand e = by (chosen_leg feed leg pick) refl e
   where
     amount : ℤ
     amount = amount_of feed pick.product
@@ -95,16 +96,16 @@ first_fare_stand-of feed rider leg pick stand e = by (chosen_leg feed leg pick) 
     choose first is false e = absurd (cc)
 
     by : (o : Option FareLeg) → chosen_leg feed leg pick ≡ o →
-        option_and_then (λ first. when (is_leg_choice feed rider leg pick) (stand_of_first feed first pick)) o
+        option_and_then (λ first. when (is_leg_choice feed buyer leg pick) (stand_of_first feed first pick)) o
         ≡ Some stand →
         IsStandOf feed (leg ∷ []) (choice_of_one pick) 0 stand
     by None is e = absurd (cc)
-    by (Some first) is e = choose first is (is_leg_choice feed rider leg pick) e
+    by (Some first) is e = choose first is (is_leg_choice feed buyer leg pick) e
 
 -- ---- one more leg
 
 -- n + 1 legs with a choice of them, after which fares stand at `stand`, and the same with one leg more
-module _ (feed : FeedRows) (rider : Option RiderId) (legs : List LegFacts) (leg : LegFacts) (choice : Choice)
+module _ (feed : FeedRows) (buyer : Buyer) (legs : List LegFacts) (leg : LegFacts) (choice : Choice)
     (place : Option ChangeChoice) (pick : LegChoice) (more : Choice) (n : ℕ) (stand : FareStand)
     (long : length legs ≡ suc n) (pushed : IsPushed choice place pick more n)
     (at : IsStandOf feed legs choice n stand) where
@@ -116,12 +117,12 @@ module _ (feed : FeedRows) (rider : Option RiderId) (legs : List LegFacts) (leg 
       ∙ change_at_push feed legs leg choice.legs pick n stand.run next long pushed.legs is at.run
 
   -- the longer choice pays the longer legs where the one paid the others, and there is a step
-  pub next_fare_stand-paid : is_fare_choice feed (legs ++ leg ∷ []) more rider
-      ≡ (is_fare_choice feed legs choice rider && is_some (next_fare_stand feed rider stand leg pick place))
+  pub next_fare_stand-paid : is_fare_choice feed (legs ++ leg ∷ []) more buyer
+      ≡ (is_fare_choice feed legs choice buyer && is_some (next_fare_stand feed buyer stand leg pick place))
   unfolding next_fare_stand
   next_fare_stand-paid =
-      is_fare_choice-push feed legs leg choice place pick more rider n long pushed
-      ∙ ap (λ (b : Bool). is_fare_choice feed legs choice rider && b) (by (slice_get feed.leg_rules pick.rule.0) refl)
+      is_fare_choice-push feed legs leg choice place pick more buyer n long pushed
+      ∙ ap (λ (b : Bool). is_fare_choice feed legs choice buyer && b) (by (slice_get feed.leg_rules pick.rule.0) refl)
     where
       kept : (b : Bool) (s : FareStand) → b ≡ is_some (when b s)
       kept true s = refl
@@ -131,22 +132,22 @@ module _ (feed : FeedRows) (rider : Option RiderId) (legs : List LegFacts) (leg 
       never a b e = rw e refl
 
       by : (o : Option LegRuleRow) → slice_get feed.leg_rules pick.rule.0 ≡ o →
-          (is_leg_choice feed rider leg pick && is_change_choice feed rider
+          (is_leg_choice feed buyer leg pick && is_change_choice feed buyer
           (change_at feed (fare_leg feed (legs ++ leg ∷ []) more.legs) n) place)
           ≡ is_some {T = FareStand} (option_and_then
           (λ next. when
-          (is_leg_choice feed rider leg pick && is_change_choice feed rider (change_to stand.run next) place)
+          (is_leg_choice feed buyer leg pick && is_change_choice feed buyer (change_to stand.run next) place)
           (stand_of_next feed stand next pick place))
           (option_map (λ rule. record { group = rule.group; departure = leg.departure; arrival = leg.arrival }) o))
-      by None is = never _ _ (rule_of_choice feed rider leg pick is)
+      by None is = never _ _ (rule_of_choice feed buyer leg pick is)
       by (Some rule) is =
           let next : FareLeg = record { group = rule.group; departure = leg.departure; arrival = leg.arrival } in
           let same = change_is next
           (ap (option_map (λ (r : LegRuleRow). record { group = r.group; departure = leg.departure; arrival = leg.arrival })) is) in
-          ap (λ c. is_leg_choice feed rider leg pick && is_change_choice feed rider c place) same ∙ kept _ _
+          ap (λ c. is_leg_choice feed buyer leg pick && is_change_choice feed buyer c place) same ∙ kept _ _
 
   -- and the step leads to where fares stand after the longer legs
-  pub next_fare_stand-of : (stand' : FareStand) → next_fare_stand feed rider stand leg pick place ≡ Some stand' →
+  pub next_fare_stand-of : (stand' : FareStand) → next_fare_stand feed buyer stand leg pick place ≡ Some stand' →
       IsStandOf feed (legs ++ leg ∷ []) more (suc n) stand'
   unfolding next_fare_stand
   next_fare_stand-of stand' e = by (chosen_leg feed leg pick) refl e
@@ -179,11 +180,11 @@ module _ (feed : FeedRows) (rider : Option RiderId) (legs : List LegFacts) (leg 
       choose next is false e = absurd (cc)
 
       by : (o : Option FareLeg) → chosen_leg feed leg pick ≡ o →
-          option_and_then (λ next. when (is_leg_choice feed rider leg pick && is_change_choice feed rider
+          option_and_then (λ next. when (is_leg_choice feed buyer leg pick && is_change_choice feed buyer
           (change_to stand.run next) place) (stand_of_next feed stand next pick place)) o ≡ Some stand' →
           IsStandOf feed (legs ++ leg ∷ []) more (suc n) stand'
       by None is e = absurd (cc)
-      by (Some next) is e = choose next is (is_leg_choice feed rider leg pick && is_change_choice feed rider
+      by (Some next) is e = choose next is (is_leg_choice feed buyer leg pick && is_change_choice feed buyer
           (change_to stand.run next) place) e
 
 -- ---- the last places of a choice
@@ -225,11 +226,11 @@ last_places more n long long' =
     }
 
 -- a choice that pays legs has a place for each leg and for each change
-pub places_of_paid : (feed : FeedRows) (rider : Option RiderId) (legs : List LegFacts) (choice : Choice) →
-    is_fare_choice feed legs choice rider ≡ true →
+pub places_of_paid : (feed : FeedRows) (buyer : Buyer) (legs : List LegFacts) (choice : Choice) →
+    is_fare_choice feed legs choice buyer ≡ true →
     (length choice.legs ≡ length legs) × (length choice.changes ≡ length legs - 1)
 unfolding is_fare_choice
-places_of_paid feed rider legs choice paid =
+places_of_paid feed buyer legs choice paid =
     let long = first_two _ _ _ _ paid in
     (eqb-true _ _ long.0, eqb-true _ _ long.1)
   where
@@ -239,11 +240,11 @@ places_of_paid feed rider legs choice paid =
     first_two false b c d e = absurd (cc)
 
 -- a choice that pays one leg has one pick, and no change
-pub one_of_paid : (feed : FeedRows) (rider : Option RiderId) (leg : LegFacts) (choice : Choice) →
-    is_fare_choice feed (leg ∷ []) choice rider ≡ true →
+pub one_of_paid : (feed : FeedRows) (buyer : Buyer) (leg : LegFacts) (choice : Choice) →
+    is_fare_choice feed (leg ∷ []) choice buyer ≡ true →
     (pick : LegChoice) × (choice ≡ choice_of_one pick)
-one_of_paid feed rider leg choice paid =
-    let places = places_of_paid feed rider (leg ∷ []) choice paid in
+one_of_paid feed buyer leg choice paid =
+    let places = places_of_paid feed buyer (leg ∷ []) choice paid in
     by choice.legs choice.changes places.0 places.1
   where
     by : (picks : List LegChoice) (places : List (Option ChangeChoice)) → length picks ≡ 1 → length places ≡ 0 →
@@ -284,19 +285,19 @@ IsStandOf-one feed legs choice n a b p q =
 -- ---- all legs
 
 -- where fares stand after leg i looks at no leg, choice or change after it
-stand_at-same : (feed : FeedRows) (rider : Option RiderId) (legs legs' : List LegFacts) (choice choice' : Choice)
+stand_at-same : (feed : FeedRows) (buyer : Buyer) (legs legs' : List LegFacts) (choice choice' : Choice)
     (i : ℕ) →
     ((j : ℕ) → j ≤ i → slice_get legs j ≡ slice_get legs' j) →
     ((j : ℕ) → j ≤ i → slice_get choice.legs j ≡ slice_get choice'.legs j) →
     ((j : ℕ) → j < i → slice_get choice.changes j ≡ slice_get choice'.changes j) →
-    stand_at feed rider legs choice i ≡ stand_at feed rider legs' choice' i
-stand_at-same feed rider legs legs' choice choice' zero leg pick place =
+    stand_at feed buyer legs choice i ≡ stand_at feed buyer legs' choice' i
+stand_at-same feed buyer legs legs' choice choice' zero leg pick place =
     let first = leg 0 (omega arith) in
     let first_pick = pick 0 (omega arith) in
     rw (first, first_pick) refl
-stand_at-same feed rider legs legs' choice choice' (suc i) leg pick place =
+stand_at-same feed buyer legs legs' choice choice' (suc i) leg pick place =
     let before =
-    stand_at-same feed rider legs legs' choice choice' i (λ j le. leg j (omega arith)) (λ j le. pick j (omega arith))
+    stand_at-same feed buyer legs legs' choice choice' i (λ j le. leg j (omega arith)) (λ j le. pick j (omega arith))
     (λ j lt. place j (omega arith)) in
     let next = leg (suc i) (omega arith) in
     let next_pick = pick (suc i) (omega arith) in
@@ -304,15 +305,15 @@ stand_at-same feed rider legs legs' choice choice' (suc i) leg pick place =
     rw (before, next, next_pick, next_place) refl
 
 -- the steps along one more leg is one step after the steps along the others
-pub stand_at-push : (feed : FeedRows) (rider : Option RiderId) (legs : List LegFacts) (leg : LegFacts)
+pub stand_at-push : (feed : FeedRows) (buyer : Buyer) (legs : List LegFacts) (leg : LegFacts)
     (choice : Choice) (place : Option ChangeChoice) (pick : LegChoice) (more : Choice) (n : ℕ) →
     length legs ≡ suc n → IsPushed choice place pick more n →
-    stand_at feed rider (legs ++ leg ∷ []) more (suc n) ≡ option_and_then
-    (λ stand. next_fare_stand feed rider stand leg pick place) (stand_at feed rider legs choice n)
-stand_at-push feed rider legs leg choice place pick more n long pushed =
+    stand_at feed buyer (legs ++ leg ∷ []) more (suc n) ≡ option_and_then
+    (λ stand. next_fare_stand feed buyer stand leg pick place) (stand_at feed buyer legs choice n)
+stand_at-push feed buyer legs leg choice place pick more n long pushed =
     let picks = pushed.legs in
     let places = pushed.changes in
-    let before = stand_at-same feed rider (legs ++ leg ∷ []) legs more choice n
+    let before = stand_at-same feed buyer (legs ++ leg ∷ []) legs more choice n
     (λ j le. slice_get-append_left legs (leg ∷ []) j (omega arith))
     (λ j le. sym (slice_get-old_item choice.legs more.legs pick j pushed.more_legs (omega arith)))
     (λ j lt. sym (slice_get-old_item choice.changes more.changes place j pushed.more_changes (omega arith))) in
@@ -322,144 +323,132 @@ stand_at-push feed rider legs leg choice place pick more n long pushed =
     rw (before, new, new_pick, new_place) refl
 
 -- the choice pays the legs, and fares stand here after them; or it doesn't, and they stand nowhere
-abbrev pub Stepped : FeedRows → Option RiderId → List LegFacts → Choice → ℕ → Option FareStand → Type 0
-Stepped feed rider legs choice n None = is_fare_choice feed legs choice rider ≡ false
-Stepped feed rider legs choice n (Some stand) = (is_fare_choice feed legs choice rider ≡ true)
+abbrev pub Stepped : FeedRows → Buyer → List LegFacts → Choice → ℕ → Option FareStand → Type 0
+Stepped feed buyer legs choice n None = is_fare_choice feed legs choice buyer ≡ false
+Stepped feed buyer legs choice n (Some stand) = (is_fare_choice feed legs choice buyer ≡ true)
     × IsStandOf feed legs choice n stand
 
-stepped_first : (feed : FeedRows) (rider : Option RiderId) (leg : LegFacts) (pick : LegChoice) →
-    Stepped feed rider (leg ∷ []) (choice_of_one pick) 0 (first_fare_stand feed rider leg pick)
-stepped_first feed rider leg pick = by (first_fare_stand feed rider leg pick) refl
+stepped_first : (feed : FeedRows) (buyer : Buyer) (leg : LegFacts) (pick : LegChoice) →
+    Stepped feed buyer (leg ∷ []) (choice_of_one pick) 0 (first_fare_stand feed buyer leg pick)
+stepped_first feed buyer leg pick = by (first_fare_stand feed buyer leg pick) refl
   where
-    by : (o : Option FareStand) → first_fare_stand feed rider leg pick ≡ o →
-        Stepped feed rider (leg ∷ []) (choice_of_one pick) 0 o
-    by None is = first_fare_stand-paid feed rider leg pick ∙ ap is_some is
+    by : (o : Option FareStand) → first_fare_stand feed buyer leg pick ≡ o →
+        Stepped feed buyer (leg ∷ []) (choice_of_one pick) 0 o
+    by None is = first_fare_stand-paid feed buyer leg pick ∙ ap is_some is
     by (Some stand) is = (
-      first_fare_stand-paid feed rider leg pick
+      first_fare_stand-paid feed buyer leg pick
           ∙ ap is_some is,
-      first_fare_stand-of feed rider leg pick stand is,
+      first_fare_stand-of feed buyer leg pick stand is,
     )
 
-stepped_next : (feed : FeedRows) (rider : Option RiderId) (legs : List LegFacts) (leg : LegFacts) (choice : Choice)
+stepped_next : (feed : FeedRows) (buyer : Buyer) (legs : List LegFacts) (leg : LegFacts) (choice : Choice)
     (place : Option ChangeChoice) (pick : LegChoice) (more : Choice) (n : ℕ) →
     length legs ≡ suc n → IsPushed choice place pick more n → (o : Option FareStand) →
-    Stepped feed rider legs choice n o →
-    Stepped feed rider (legs ++ leg ∷ []) more (suc n)
-    (option_and_then (λ stand. next_fare_stand feed rider stand leg pick place) o)
-stepped_next feed rider legs leg choice place pick more n long pushed None before =
-    is_fare_choice-push feed legs leg choice place pick more rider n long pushed ∙ never _ _ before
+    Stepped feed buyer legs choice n o →
+    Stepped feed buyer (legs ++ leg ∷ []) more (suc n)
+    (option_and_then (λ stand. next_fare_stand feed buyer stand leg pick place) o)
+stepped_next feed buyer legs leg choice place pick more n long pushed None before =
+    is_fare_choice-push feed legs leg choice place pick more buyer n long pushed ∙ never _ _ before
   where
     never : (a b : Bool) → a ≡ false → (a && b) ≡ false
     never a b e = rw e refl
-stepped_next feed rider legs leg choice place pick more n long pushed (Some stand) before = by
-    (next_fare_stand feed rider stand leg pick place) refl
+stepped_next feed buyer legs leg choice place pick more n long pushed (Some stand) before = by
+    (next_fare_stand feed buyer stand leg pick place) refl
   where
-    paid : is_fare_choice feed (legs ++ leg ∷ []) more rider ≡ is_some (next_fare_stand feed rider stand leg pick place)
+    paid : is_fare_choice feed (legs ++ leg ∷ []) more buyer ≡ is_some (next_fare_stand feed buyer stand leg pick place)
     paid =
-        next_fare_stand-paid feed rider legs leg choice place pick more n stand long pushed before.1
+        next_fare_stand-paid feed buyer legs leg choice place pick more n stand long pushed before.1
         ∙ and_true _ _ before.0
       where
         and_true : (a b : Bool) → a ≡ true → (a && b) ≡ b
         and_true a b e = rw e refl
 
-    by : (o : Option FareStand) → next_fare_stand feed rider stand leg pick place ≡ o →
-        Stepped feed rider (legs ++ leg ∷ []) more (suc n) o
+    by : (o : Option FareStand) → next_fare_stand feed buyer stand leg pick place ≡ o →
+        Stepped feed buyer (legs ++ leg ∷ []) more (suc n) o
     by None is = paid ∙ ap is_some is
     by (Some stand') is =
-        (paid ∙ ap is_some is, next_fare_stand-of feed rider legs leg choice place pick more n stand long pushed before.1 stand' is)
+        (paid ∙ ap is_some is, next_fare_stand-of feed buyer legs leg choice place pick more n stand long pushed before.1 stand' is)
 
 -- a choice with the right number of places pays the legs exactly where each step is right, and then fares stand as it says
-pub stepped : (feed : FeedRows) (rider : Option RiderId) (n : ℕ) (legs : List LegFacts) (picks : List LegChoice)
+pub stepped : (feed : FeedRows) (buyer : Buyer) (n : ℕ) (legs : List LegFacts) (picks : List LegChoice)
     (places : List (Option ChangeChoice)) →
     length legs ≡ suc n → length picks ≡ suc n → length places ≡ n →
-    Stepped feed rider legs (record { legs = picks; changes = places }) n
-    (stand_at feed rider legs (record { legs = picks; changes = places }) n)
-stepped feed rider zero (leg ∷ []) (pick ∷ []) [] long long' long'' = stepped_first feed rider leg pick
-stepped feed rider zero (leg ∷ []) (pick ∷ []) (place ∷ places) long long' long'' = absurd (omega arith)
-stepped feed rider zero (leg ∷ []) [] places long long' long'' = absurd (omega arith)
-stepped feed rider zero (leg ∷ []) (pick ∷ other ∷ picks) places long long' long'' = absurd (omega arith)
-stepped feed rider zero [] picks places long long' long'' = absurd (omega arith)
-stepped feed rider zero (leg ∷ other ∷ legs) picks places long long' long'' = absurd (omega arith)
-stepped feed rider (suc n) legs picks places long long' long'' =
+    Stepped feed buyer legs (record { legs = picks; changes = places }) n
+    (stand_at feed buyer legs (record { legs = picks; changes = places }) n)
+stepped feed buyer zero (leg ∷ []) (pick ∷ []) [] long long' long'' = stepped_first feed buyer leg pick
+stepped feed buyer zero (leg ∷ []) (pick ∷ []) (place ∷ places) long long' long'' = absurd (omega arith)
+stepped feed buyer zero (leg ∷ []) [] places long long' long'' = absurd (omega arith)
+stepped feed buyer zero (leg ∷ []) (pick ∷ other ∷ picks) places long long' long'' = absurd (omega arith)
+stepped feed buyer zero [] picks places long long' long'' = absurd (omega arith)
+stepped feed buyer zero (leg ∷ other ∷ legs) picks places long long' long'' = absurd (omega arith)
+stepped feed buyer (suc n) legs picks places long long' long'' =
     let more : Choice = record { legs = picks; changes = places } in
     let front = ends_with legs (suc n) long in
     let last = last_places more n long' long'' in
-    let before = stepped feed rider n front.front last.choice.legs last.choice.changes front.long last.pushed.legs last.pushed.changes in
-    subst (λ (ls : List LegFacts). Stepped feed rider ls more (suc n) (stand_at feed rider ls more (suc n)))
+    let before = stepped feed buyer n front.front last.choice.legs last.choice.changes front.long last.pushed.legs last.pushed.changes in
+    subst (λ (ls : List LegFacts). Stepped feed buyer ls more (suc n) (stand_at feed buyer ls more (suc n)))
     (sym front.is)
-    (subst (Stepped feed rider (front.front ++ front.last ∷ []) more (suc n))
-    (sym (stand_at-push feed rider front.front front.last last.choice last.place last.pick more n front.long last.pushed))
-    (stepped_next feed rider front.front front.last last.choice last.place last.pick more n front.long last.pushed _ before))
-
--- stepping along all legs gives the price of a choice, which is there exactly where the choice pays the legs
-pub fare_price-stand : (feed : FeedRows) (rider : Option RiderId) (legs : List LegFacts) (choice : Choice) (n : ℕ) →
-    length legs ≡ suc n → length choice.legs ≡ suc n → length choice.changes ≡ n →
-    fare_price feed legs choice rider ≡ option_map stand_price (stand_at feed rider legs choice n)
-fare_price-stand feed rider legs choice n long long' long'' =
-    by (stand_at feed rider legs choice n) (stepped feed rider n legs choice.legs choice.changes long long' long'')
-  where
-    by : (o : Option FareStand) → Stepped feed rider legs choice n o →
-        fare_price feed legs choice rider ≡ option_map stand_price o
-    by None unpaid = rw unpaid refl
-    by (Some stand) paid = let pays = paid.0 in rw pays (ap Some (sym paid.1.price))
+    (subst (Stepped feed buyer (front.front ++ front.last ∷ []) more (suc n))
+    (sym (stand_at-push feed buyer front.front front.last last.choice last.place last.pick more n front.long last.pushed))
+    (stepped_next feed buyer front.front front.last last.choice last.place last.pick more n front.long last.pushed _ before))
 
 -- where a choice has other places it has no price
-pub fare_price-places : (feed : FeedRows) (rider : Option RiderId) (legs : List LegFacts) (choice : Choice)
+pub fare_price-places : (feed : FeedRows) (buyer : Buyer) (legs : List LegFacts) (choice : Choice)
     (price : ℤ) →
-    fare_price feed legs choice rider ≡ Some price → (length choice.legs ≡ length legs)
+    fare_price feed legs choice buyer ≡ Some price → (length choice.legs ≡ length legs)
     × (length choice.changes ≡ length legs - 1)
-fare_price-places feed rider legs choice price is =
-    places_of_paid feed rider legs choice (cond_some (is_fare_choice feed legs choice rider)
+fare_price-places feed buyer legs choice price is =
+    places_of_paid feed buyer legs choice (cond_some (is_fare_choice feed legs choice buyer)
     (fare_sum feed choice) price is).0
 
 -- a choice that pays legs, and where fares stand after them
-pub record StandsAfter (feed : FeedRows) (rider : Option RiderId) (legs : List LegFacts) (choice : Choice)
+pub record StandsAfter (feed : FeedRows) (buyer : Buyer) (legs : List LegFacts) (choice : Choice)
     (n : ℕ) : Type 0 where
   pub stand : FareStand
-  pub is : stand_at feed rider legs choice n ≡ Some stand
+  pub is : stand_at feed buyer legs choice n ≡ Some stand
   pub of : IsStandOf feed legs choice n stand
 
 -- after legs that a choice pays fares stand somewhere
-pub stand_of_paid : (feed : FeedRows) (rider : Option RiderId) (legs : List LegFacts) (choice : Choice) (n : ℕ) →
-    length legs ≡ suc n → is_fare_choice feed legs choice rider ≡ true → StandsAfter feed rider legs choice n
-stand_of_paid feed rider legs choice n long paid =
-    let places = places_of_paid feed rider legs choice paid in
+pub stand_of_paid : (feed : FeedRows) (buyer : Buyer) (legs : List LegFacts) (choice : Choice) (n : ℕ) →
+    length legs ≡ suc n → is_fare_choice feed legs choice buyer ≡ true → StandsAfter feed buyer legs choice n
+stand_of_paid feed buyer legs choice n long paid =
+    let places = places_of_paid feed buyer legs choice paid in
     let picks = places.0 in
     let changes = places.1 in
-    by (stand_at feed rider legs choice n) refl (stepped feed rider n legs choice.legs choice.changes long
+    by (stand_at feed buyer legs choice n) refl (stepped feed buyer n legs choice.legs choice.changes long
     (omega arith) (omega arith))
   where
-    by : (o : Option FareStand) → stand_at feed rider legs choice n ≡ o → Stepped feed rider legs choice n o →
-        StandsAfter feed rider legs choice n
+    by : (o : Option FareStand) → stand_at feed buyer legs choice n ≡ o → Stepped feed buyer legs choice n o →
+        StandsAfter feed buyer legs choice n
     by None is unpaid = absurd (cc)
     by (Some stand) is w = record { stand = stand; is = is; of = w.1 }
 
 -- a choice over one more leg as a choice over the legs before, and one step
-pub record IsStepFrom (feed : FeedRows) (rider : Option RiderId) (legs : List LegFacts) (leg : LegFacts)
+pub record IsStepFrom (feed : FeedRows) (buyer : Buyer) (legs : List LegFacts) (leg : LegFacts)
     (more : Choice) (n : ℕ) : Type 0 where
   pub last : HasLastPlaces more n
-  pub paid : is_fare_choice feed legs last.choice rider ≡ true
-  pub before : StandsAfter feed rider legs last.choice n
+  pub paid : is_fare_choice feed legs last.choice buyer ≡ true
+  pub before : StandsAfter feed buyer legs last.choice n
   pub after : FareStand
-  pub step : next_fare_stand feed rider before.stand leg last.pick last.place ≡ Some after
+  pub step : next_fare_stand feed buyer before.stand leg last.pick last.place ≡ Some after
   pub of : IsStandOf feed (legs ++ leg ∷ []) more (suc n) after
 
 -- each choice that pays one more leg is such
-pub step_of_paid : (feed : FeedRows) (rider : Option RiderId) (legs : List LegFacts) (leg : LegFacts) (more : Choice)
+pub step_of_paid : (feed : FeedRows) (buyer : Buyer) (legs : List LegFacts) (leg : LegFacts) (more : Choice)
     (n : ℕ) →
-    length legs ≡ suc n → is_fare_choice feed (legs ++ leg ∷ []) more rider ≡ true →
-    IsStepFrom feed rider legs leg more n
-step_of_paid feed rider legs leg more n long paid =
-    let places = places_of_paid feed rider (legs ++ leg ∷ []) more paid in
+    length legs ≡ suc n → is_fare_choice feed (legs ++ leg ∷ []) more buyer ≡ true →
+    IsStepFrom feed buyer legs leg more n
+step_of_paid feed buyer legs leg more n long paid =
+    let places = places_of_paid feed buyer (legs ++ leg ∷ []) more paid in
     let picks = places.0 in
     let changes = places.1 in
     let long' = length_push legs leg in
     with_last (last_places more n (omega arith) (omega arith))
   where
-    with_step : (last : HasLastPlaces more n) → is_fare_choice feed legs last.choice rider ≡ true →
-        (before : StandsAfter feed rider legs last.choice n) →
-        (o : Option FareStand) → next_fare_stand feed rider before.stand leg last.pick last.place ≡ o → is_some o ≡ true →
-        IsStepFrom feed rider legs leg more n
+    with_step : (last : HasLastPlaces more n) → is_fare_choice feed legs last.choice buyer ≡ true →
+        (before : StandsAfter feed buyer legs last.choice n) →
+        (o : Option FareStand) → next_fare_stand feed buyer before.stand leg last.pick last.place ≡ o → is_some o ≡ true →
+        IsStepFrom feed buyer legs leg more n
     with_step last pays before None is some = absurd (cc)
     with_step last pays before (Some after) is some = record {
       last = last;
@@ -467,32 +456,32 @@ step_of_paid feed rider legs leg more n long paid =
       before = before;
       after = after;
       step = is;
-      of = next_fare_stand-of feed rider legs leg last.choice last.place last.pick more n before.stand long last.pushed before.of after is;
+      of = next_fare_stand-of feed buyer legs leg last.choice last.place last.pick more n before.stand long last.pushed before.of after is;
     }
 
-    with_stand : (last : HasLastPlaces more n) → is_fare_choice feed legs last.choice rider ≡ true →
-        StandsAfter feed rider legs last.choice n → IsStepFrom feed rider legs leg more n
+    with_stand : (last : HasLastPlaces more n) → is_fare_choice feed legs last.choice buyer ≡ true →
+        StandsAfter feed buyer legs last.choice n → IsStepFrom feed buyer legs leg more n
     with_stand last pays before =
-        let whole = next_fare_stand-paid feed rider legs leg last.choice last.place last.pick more n before.stand long last.pushed before.of in
-        with_step last pays before (next_fare_stand feed rider before.stand leg last.pick last.place) refl
-        (and_parts (is_fare_choice feed legs last.choice rider)
-        (is_some (next_fare_stand feed rider before.stand leg last.pick last.place)) (sym whole ∙ paid)).1
+        let whole = next_fare_stand-paid feed buyer legs leg last.choice last.place last.pick more n before.stand long last.pushed before.of in
+        with_step last pays before (next_fare_stand feed buyer before.stand leg last.pick last.place) refl
+        (and_parts (is_fare_choice feed legs last.choice buyer)
+        (is_some (next_fare_stand feed buyer before.stand leg last.pick last.place)) (sym whole ∙ paid)).1
 
-    with_last : HasLastPlaces more n → IsStepFrom feed rider legs leg more n
+    with_last : HasLastPlaces more n → IsStepFrom feed buyer legs leg more n
     with_last last =
-        let whole = is_fare_choice-push feed legs leg last.choice last.place last.pick more rider n long last.pushed in
-        let pays = (and_parts (is_fare_choice feed legs last.choice rider) _ (sym whole ∙ paid)).0 in
-        with_stand last pays (stand_of_paid feed rider legs last.choice n long pays)
+        let whole = is_fare_choice-push feed legs leg last.choice last.place last.pick more buyer n long last.pushed in
+        let pays = (and_parts (is_fare_choice feed legs last.choice buyer) _ (sym whole ∙ paid)).0 in
+        with_stand last pays (stand_of_paid feed buyer legs last.choice n long pays)
 
 -- and each step from a choice that pays the legs before leads to one that pays one more leg
-pub paid_of_step : (feed : FeedRows) (rider : Option RiderId) (legs : List LegFacts) (leg : LegFacts)
+pub paid_of_step : (feed : FeedRows) (buyer : Buyer) (legs : List LegFacts) (leg : LegFacts)
     (choice : Choice) (place : Option ChangeChoice) (pick : LegChoice) (more : Choice) (n : ℕ)
     (stand after : FareStand) →
-    length legs ≡ suc n → IsPushed choice place pick more n → is_fare_choice feed legs choice rider ≡ true →
+    length legs ≡ suc n → IsPushed choice place pick more n → is_fare_choice feed legs choice buyer ≡ true →
     IsStandOf feed legs choice n stand →
-    next_fare_stand feed rider stand leg pick place ≡ Some after → is_fare_choice feed (legs ++ leg ∷ []) more rider ≡ true
-paid_of_step feed rider legs leg choice place pick more n stand after long pushed paid at step =
-    next_fare_stand-paid feed rider legs leg choice place pick more n stand long pushed at ∙ both _ _ paid (ap is_some step)
+    next_fare_stand feed buyer stand leg pick place ≡ Some after → is_fare_choice feed (legs ++ leg ∷ []) more buyer ≡ true
+paid_of_step feed buyer legs leg choice place pick more n stand after long pushed paid at step =
+    next_fare_stand-paid feed buyer legs leg choice place pick more n stand long pushed at ∙ both _ _ paid (ap is_some step)
   where
     both : (a b : Bool) → a ≡ true → b ≡ true → (a && b) ≡ true
     both a b e f = rw (e, f) refl

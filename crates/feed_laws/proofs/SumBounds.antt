@@ -6,7 +6,7 @@ use Rattle.std.proofs.lemmas.Int.{ints}
 use Rattle.std.proofs.lemmas.Option.{slice_get_within, get_or_from_slice_get, cond_some}
 use Rattle.std.proofs.lemmas.List.Elements.{All-get_or}
 use Rattle.transit_base.specs.declared.numbers.ProductRowId.{ProductRowId}
-use Rattle.transit_base.specs.declared.numbers.RiderId.{RiderId}
+use Rattle.feed_rows.specs.declared.journeys.Buyer.{Buyer}
 use Rattle.feed_rows.specs.declared.rows.ProductRow.{ProductRow}
 use Rattle.feed_rows.specs.declared.journeys.LegFacts.{LegFacts}
 use Rattle.feed_rows.specs.declared.fares.LegChoice.{LegChoice}
@@ -90,21 +90,21 @@ module _ (feed : FeedRows) (most : ℕ) (amounts : All
       rw together both
 
   -- so the price of n legs is at most 2 * n - 1 times the greatest amount
-  pub fare_price-within : (legs : List LegFacts) (choice : Choice) (rider : Option RiderId) (price : ℤ) →
+  pub fare_price-within : (legs : List LegFacts) (choice : Choice) (buyer : Buyer) (price : ℤ) →
       0 < length legs →
-      fare_price feed legs choice rider ≡ Some price → nat_abs price ≤ (2 * length legs - 1) * most
-  fare_price-within legs choice rider price some is =
-      let places = fare_price-places feed rider legs choice price is in
+      fare_price feed legs choice buyer ≡ Some price → nat_abs price ≤ (2 * length legs - 1) * most
+  fare_price-within legs choice buyer price some is =
+      let places = fare_price-places feed buyer legs choice price is in
       let picks = places.0 in
       let changes = places.1 in
       let count : length choice.legs + length choice.changes ≡ 2 * length legs - 1 = omega arith in
-      let sum = (cond_some (is_fare_choice feed legs choice rider) (fare_sum feed choice) price is).1 in
+      let sum = (cond_some (is_fare_choice feed legs choice buyer) (fare_sum feed choice) price is).1 in
       rw (← sum, ← count) (fare_sum-within choice)
 
 -- where amounts are at most 10^12, the price of n legs is at most (2 * n - 1) * 10^12
-pub fare_price-bound : (feed : FeedRows) (legs : List LegFacts) (choice : Choice) (rider : Option RiderId) (price : ℤ) →
+pub fare_price-bound : (feed : FeedRows) (legs : List LegFacts) (choice : Choice) (buyer : Buyer) (price : ℤ) →
     All (λ (row : ProductRow). nat_abs row.amount.0 ≤ 10 ^ 12) feed.products → 0 < length legs →
-    fare_price feed legs choice rider ≡ Some price →
+    fare_price feed legs choice buyer ≡ Some price →
     nat_abs price ≤ (2 * length legs - 1) * 10 ^ 12
-fare_price-bound feed legs choice rider price amounts some is = fare_price-within feed
-    (10 ^ 12) amounts legs choice rider price some is
+fare_price-bound feed legs choice buyer price amounts some is = fare_price-within feed
+    (10 ^ 12) amounts legs choice buyer price some is

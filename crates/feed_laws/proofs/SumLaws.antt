@@ -10,7 +10,8 @@ use Rattle.feed_rows.specs.declared.fares.Choice.{Choice}
 use Rattle.feed_rows.specs.FeedRows.{FeedRows}
 use Rattle.plain_laws.specs.Plain.{sum_below}
 use Rattle.feed_rows.specs.FareSums.{transfer_kind, starts_chain, is_charged, amount_of, leg_amount, leg_charge, change_charge, fare_sum}
-use Rattle.feed_rows.specs.FareStands.{held_at, frees_next, frees_first, next_held, next_paid, place_kind, place_charge}
+use Rattle.feed_rows.specs.FareStates.{held_at}
+use Rattle.feed_rows.specs.FareSteps.{frees_next, frees_first, next_held, next_paid, place_kind, place_charge}
 use Rattle.plain_laws.proofs.Laws.{sum_below-same, slice_get-old_item, slice_get-new_item}
 
 -- what leg i costs, where `kind` gives the type of each change and `amount` the amount of each leg
@@ -258,8 +259,3 @@ fare_sum-first feed choice pick legs changes =
 pub held_at-first : (feed : FeedRows) (choice : Choice) (pick : LegChoice) → choice.legs ≡ pick ∷ [] → held_at (transfer_kind feed choice) (leg_amount feed choice) 0 ≡ amount_of feed pick.product
 unfolding starts_chain
 held_at-first feed choice pick legs = leg_amount_at feed choice 0 pick (ap (λ xs. slice_get xs 0) legs)
-
--- a choice for no leg costs nothing
-pub fare_sum_none : (feed : FeedRows) (choice : Choice) → choice.legs ≡ [] → choice.changes ≡ [] → fare_sum feed choice ≡ pos 0
-unfolding fare_sum
-fare_sum_none feed choice legs changes = rw (legs, changes) refl

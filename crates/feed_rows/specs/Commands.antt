@@ -1,6 +1,6 @@
 -- The commands, each with its words and what they ask for. A program takes the commands of a list of these.
 use Rattle.std.specs.Prelude.{ℕ, not, if◌then◌else◌, List, [], ◌∷◌, filter, find, ok_or, Result, Ok, Err, pos, codes, bytes_eq}
-use Rattle.feed_rows.specs.Limits.{usual_window, most_window}
+use Rattle.feed_rows.specs.Limits.{most_rides, most_window, usual_window}
 use Rattle.transit_base.specs.Moments.{moment_at}
 use Rattle.feed_rows.specs.UsageFaults.{unless_fault}
 use Rattle.feed_rows.specs.NumberedItems.{read_each}
@@ -25,7 +25,7 @@ abbrev pub read_plan : List (List ℕ) → List (List ℕ) → Result Request Us
 read_plan named words =
     unless_fault (ok_or (word_date (word_at named 2)) usage.BadDate) (λ day.
     unless_fault (ok_or (word_time (word_at named 3)) usage.BadTime) (λ seconds.
-    unless_fault (ok_or (option_number 4 0 8 (option_value words (codes "--rides"))) usage.BadRides) (λ rides.
+    unless_fault (ok_or (option_number 4 0 most_rides (option_value words (codes "--rides"))) usage.BadRides) (λ rides.
     unless_fault (ok_or (option_number usual_window 1 most_window (option_value words (codes "--within"))) usage.BadWindow) (λ window.
     Ok (Plan (record {
       from = word_at named 0;
@@ -62,7 +62,7 @@ abbrev pub price : Command
 price =
     record {
       name = codes "price";
-      form = record { options = codes "--rider" ∷ []; flags = []; fewest = 1; most = 8 };
+      form = record { options = codes "--rider" ∷ []; flags = []; fewest = 1; most = most_rides };
       read = read_price;
     }
 

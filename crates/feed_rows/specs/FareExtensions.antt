@@ -1,6 +1,6 @@
 -- Moves as what extends a choice: one more leg after legs that the choice pays.
 use Rattle.std.specs.Prelude.{◌≡◌, ◌≢◌, ℕ, zero, suc, true, List, [], ◌∷◌, ◌++◌, length, All, AllPairs, Contains, Option, Some, None, ◌+ℤ◌}
-use Rattle.transit_base.specs.declared.numbers.RiderId.{RiderId}
+use Rattle.feed_rows.specs.declared.journeys.Buyer.{Buyer}
 use Rattle.feed_rows.specs.declared.fares.ChangeChoice.{ChangeChoice}
 use Rattle.feed_rows.specs.declared.fares.Choice.{Choice}
 use Rattle.feed_rows.specs.declared.journeys.LegFacts.{LegFacts}
@@ -26,10 +26,10 @@ extended choice move =
 
 -- with what the move takes the choice pays one more leg, and the move says what this adds to what is paid, what is held
 -- then, and the state
-pub record Extends (feed : FeedRows) (rider : Option RiderId) (legs : List LegFacts) (choice : Choice)
+pub record Extends (feed : FeedRows) (buyer : Buyer) (legs : List LegFacts) (choice : Choice)
     (leg : LegFacts) (move : Move) : Type 0 where
   pub whole : is_whole move ≡ true
-  pub pays : is_fare_choice feed (legs ++ leg ∷ []) (extended choice move) rider ≡ true
+  pub pays : is_fare_choice feed (legs ++ leg ∷ []) (extended choice move) buyer ≡ true
   pub paid : paid_amount feed (extended choice move) ≡ paid_amount feed choice +ℤ move.paid.0
   pub held : held_amount feed (extended choice move) ≡ move.held.0
   pub state : fare_state feed (legs ++ leg ∷ []) (extended choice move) ≡ Some move.state
@@ -45,9 +45,9 @@ pub record BeginsWith (choice longer : Choice) : Type 0 where
 
 -- the moves are exactly those that extend the choice by the leg, each once: every choice that pays the longer legs and
 -- begins with this one is made by one of them
-pub record AreExtensions (feed : FeedRows) (rider : Option RiderId) (legs : List LegFacts) (choice : Choice)
+pub record AreExtensions (feed : FeedRows) (buyer : Buyer) (legs : List LegFacts) (choice : Choice)
     (leg : LegFacts) (moves : List Move) : Type 0 where
-  pub right : All (Extends feed rider legs choice leg) moves
-  pub all : (longer : Choice) → is_fare_choice feed (legs ++ leg ∷ []) longer rider ≡ true → BeginsWith choice longer
+  pub right : All (Extends feed buyer legs choice leg) moves
+  pub all : (longer : Choice) → is_fare_choice feed (legs ++ leg ∷ []) longer buyer ≡ true → BeginsWith choice longer
       → (move : Move) × Contains moves move × (longer ≡ extended choice move)
   pub once : AllPairs (λ a b. extended choice a ≢ extended choice b) moves

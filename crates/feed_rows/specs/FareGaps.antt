@@ -3,10 +3,10 @@
 use Rattle.std.specs.Prelude.{ℕ, ◌+◌, Bool, not, ◌&&◌, ◌==◌, if◌then◌else◌, List, length, ℤ, pos, ◌+ℤ◌, ◌-ℤ◌, int_le, unsigned_abs}
 use Rattle.std.specs.List.{list_any}
 use Rattle.transit_base.specs.declared.calendar.Day.{Day}
-use Rattle.transit_base.specs.declared.numbers.RiderId.{RiderId}
 use Rattle.transit_base.specs.declared.numbers.RuleId.{RuleId}
 use Rattle.transit_base.specs.declared.numbers.StopId.{StopId}
 use Rattle.transit_base.specs.declared.numbers.TripId.{TripId}
+use Rattle.feed_rows.specs.declared.journeys.Buyer.{Buyer}
 use Rattle.feed_rows.specs.declared.journeys.LegFacts.{LegFacts}
 use Rattle.feed_rows.specs.declared.journeys.Pair.{Pair}
 use Rattle.feed_rows.specs.declared.journeys.RideFacts.{RideFacts}
@@ -19,7 +19,6 @@ use Rattle.feed_rows.specs.Legs.{leg_facts}
 use Rattle.feed_rows.specs.Rides.{ride_facts}
 use Rattle.feed_rows.specs.Shifts.{shifts_of}
 use Rattle.plain_laws.specs.Plain.{any_below, filled_and, ids_where, joined_below, picks_below}
-use Rattle.std.specs.Prelude.{Option}
 
 -- how many days there are from the first to the last, both included
 abbrev pub days_from : ℤ → ℤ → ℕ
@@ -41,23 +40,23 @@ some_ride feed first last test =
     (some_ride_of_run feed test (record { 0 = trip }) (record { 0 = first +ℤ pos n }))
     (shifts_of feed (record { 0 = trip }))))
 
--- the leg has an option: a rule that it selects has a product with a row that is open to the rider
-unfoldable pub has_option : FeedRows → Option RiderId → LegFacts → Bool
-has_option feed rider leg =
-    list_any (λ rule. is_selected_rule feed leg rule && list_any (is_open rule.product rider) feed.products) feed.leg_rules
+-- the leg has an option: a rule that it selects has a product with a row that is open to the buyer
+unfoldable pub has_option : FeedRows → Buyer → LegFacts → Bool
+has_option feed buyer leg =
+    list_any (λ rule. is_selected_rule feed leg rule && list_any (is_open rule.product buyer) feed.products) feed.leg_rules
 
 -- the ride goes from the one stop to the other, and its leg has no option
-abbrev pub is_unpaid_between : FeedRows → Option RiderId → StopId → StopId → RideFacts → Bool
-is_unpaid_between feed rider from to ride =
-    (ride.from.0 == from.0) && (ride.to.0 == to.0) && not (has_option feed rider (leg_facts feed ride))
+abbrev pub is_unpaid_between : FeedRows → Buyer → StopId → StopId → RideFacts → Bool
+is_unpaid_between feed buyer from to ride =
+    (ride.from.0 == from.0) && (ride.to.0 == to.0) && not (has_option feed buyer (leg_facts feed ride))
 
 -- the pairs of stops between which some ride has no option: by boarding stop and then by alighting stop, in file order
-unfoldable pub uncovered_pairs : FeedRows → Option RiderId → ℤ → ℤ → List Pair
-uncovered_pairs feed rider first last =
+unfoldable pub uncovered_pairs : FeedRows → Buyer → ℤ → ℤ → List Pair
+uncovered_pairs feed buyer first last =
     joined_below (length feed.stops) (λ from.
     picks_below
     (length feed.stops)
-    (λ to. some_ride feed first last (is_unpaid_between feed rider (record { 0 = from }) (record { 0 = to })))
+    (λ to. some_ride feed first last (is_unpaid_between feed buyer (record { 0 = from }) (record { 0 = to })))
     (λ to. record { from = record { 0 = from }; to = record { 0 = to } }))
 
 -- the leg of some ride selects the rule

@@ -13,10 +13,14 @@ use Rattle.feed_rows.specs.FeedRows.{FeedRows}
 use Rattle.feed_rows.specs.TransferRules.{FareLeg, group_matches, run_start}
 use Rattle.feed_rows.specs.FareChoices.{fare_leg}
 use Rattle.feed_rows.specs.FareSums.{transfer_kind, starts_chain, leg_amount, fare_sum}
-use Rattle.feed_rows.specs.FareStands.{held_at}
 use Rattle.plain_laws.specs.Plain.{filled_and, when}
 
 -- ---- what is held, and what is paid
+
+-- the amount that a change which alone is paid takes back after leg n: that of leg n where it is the first of its chain,
+-- else 0
+abbrev pub held_at : (ℕ → Option ℕ) → (ℕ → ℤ) → ℕ → ℤ
+held_at kind amount n = if starts_chain kind n then amount n else pos 0
 
 -- what is held of the first n legs: the amount of the last of them, where that is the first of its chain
 abbrev pub held_of : FeedRows → Choice → ℕ → ℤ

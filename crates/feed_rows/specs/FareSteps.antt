@@ -1,20 +1,21 @@
 -- One more leg after a fare state: which moves there are, and what follows of each. A move names the rule and the
 -- product row of the leg, and those of the change to it. All is said of the state alone, so of states too that no legs
 -- have.
-use Rattle.std.specs.Prelude.{◌≡◌, ◌≢◌, ℕ, ◌+◌, Bool, true, false, ◌&&◌, not, if◌then◌else◌, List, All, AllPairs, Contains, Option, Some, None, is_none, ℤ, pos, option_map, option_and_then}
-use Rattle.std.specs.Option.{is_some, unwrap_or}
+use Rattle.std.specs.Prelude.{◌≡◌, ◌≢◌, ℕ, ◌+◌, Bool, true, false, ◌&&◌, ◌||◌, ◌==◌, not, if◌then◌else◌, List, All, AllPairs, Contains, Option, Some, None, is_none, ℤ, pos, ◌+ℤ◌, slice_get, option_map, option_and_then}
+use Rattle.std.specs.Option.{is_some, option_map_or, unwrap_or}
 use Rattle.std.specs.List.{list_any}
-use Rattle.transit_base.specs.declared.numbers.RiderId.{RiderId}
+use Rattle.feed_rows.specs.declared.journeys.Buyer.{Buyer}
 use Rattle.feed_rows.specs.declared.fares.ChangeChoice.{ChangeChoice}
 use Rattle.feed_rows.specs.declared.fares.LegChoice.{LegChoice}
+use Rattle.feed_rows.specs.declared.fares.TransferFacts.{TransferFacts}
 use Rattle.feed_rows.specs.declared.journeys.LegFacts.{LegFacts}
 use Rattle.feed_rows.specs.declared.states.FareState.{FareState}
 use Rattle.feed_rows.specs.declared.states.Move.{Move}
+use Rattle.feed_rows.specs.Codes.{change_alone, includes_leg_after}
 use Rattle.feed_rows.specs.FeedRows.{FeedRows}
-use Rattle.feed_rows.specs.TransferRules.{FareLeg, AskedChange, asked_change, limit_holds, is_selected, same_group}
+use Rattle.feed_rows.specs.TransferRules.{FareLeg, AskedChange, asked_change, change_between, limit_holds, is_selected, same_group}
 use Rattle.feed_rows.specs.FareChoices.{chosen_leg, is_leg_choice, is_change_product}
-use Rattle.feed_rows.specs.FareSums.{amount_of}
-use Rattle.feed_rows.specs.FareStands.{Run, change_to, next_paid, next_held, place_kind, place_charge}
+use Rattle.feed_rows.specs.FareSums.{amount_of, pick_amount}
 use Rattle.feed_rows.specs.FareStates.{capped_count, counts_from_departure, state_of_run}
 use Rattle.plain_laws.specs.Plain.{at_and, filled_and, when}
 
@@ -33,6 +34,16 @@ abbrev pub is_whole : Move → Bool
 is_whole move = if is_none move.xfer then is_none move.xfer_product else true
 
 -- ---- the change
+
+-- what later changes read of the last leg's run: its first leg, whose group is that of each leg of the run, and how many
+-- changes it has
+pub record Run : Type 0 where
+  pub first : FareLeg
+  pub changes : ℕ
+
+-- the change from a run to the next leg; none where one of its legs has no group
+abbrev pub change_to : Run → FareLeg → Option TransferFacts
+change_to run next = change_between run.first run.changes next run.first.group next.group
 
 -- the run as the state tells of it; the moment of a clock that the state lacks is no matter, since no limit that reads
 -- it holds
@@ -63,15 +74,43 @@ unfoldable pub is_arranged_after : FeedRows → AskedChange → Bool
 is_arranged_after feed change = list_any (is_selected feed change) feed.transfer_rules
 
 -- the row is selected for the change, with the right product row
-unfoldable pub is_row_after : FeedRows → Option RiderId → AskedChange → ChangeChoice → Bool
-is_row_after feed rider change pick =
+unfoldable pub is_row_after : FeedRows → Buyer → AskedChange → ChangeChoice → Bool
+is_row_after feed buyer change pick =
     at_and feed.transfer_rules pick.rule.0 (λ rule.
-    is_selected feed change rule && is_change_product feed rider rule.product pick.product)
+    is_selected feed change rule && is_change_product feed buyer rule.product pick.product)
 
 -- the place of the change is filled exactly where the change is arranged, and then by a choice for it
-abbrev pub is_place_after : FeedRows → Option RiderId → Option AskedChange → Option ChangeChoice → Bool
-is_place_after feed rider change None = not (filled_and change (is_arranged_after feed))
-is_place_after feed rider change (Some pick) = filled_and change (λ c. is_row_after feed rider c pick)
+abbrev pub is_place_after : FeedRows → Buyer → Option AskedChange → Option ChangeChoice → Bool
+is_place_after feed buyer change None = not (filled_and change (is_arranged_after feed))
+is_place_after feed buyer change (Some pick) = filled_and change (λ c. is_row_after feed buyer c pick)
+
+-- ---- what is paid, and what is held
+
+-- a change of this type makes the leg after it free
+abbrev pub frees_next : Option ℕ → Bool
+frees_next kind = filled_and kind includes_leg_after
+
+-- a change of this type makes the leg before it free where that is the first of its chain
+abbrev pub frees_first : Option ℕ → Bool
+frees_first kind = filled_and kind (λ k. k == change_alone)
+
+-- what is held after a change of this type: the amount of the leg after it, where the change isn't arranged
+abbrev pub next_held : Option ℕ → ℤ → ℤ
+next_held kind amount = if is_none kind then amount else pos 0
+
+-- what is paid after a change of this type, which costs `change`: what was held, unless the change takes it back, and the leg
+-- after it, unless that is free or held
+abbrev pub next_paid : ℤ → ℤ → Option ℕ → ℤ → ℤ → ℤ
+next_paid paid held kind amount change =
+    paid +ℤ (if frees_first kind then pos 0 else held) +ℤ change +ℤ (if is_none kind || frees_next kind then pos 0 else amount)
+
+-- the type of the row by which the place of a change says that it is arranged
+abbrev pub place_kind : FeedRows → Option ChangeChoice → Option ℕ
+place_kind feed place = option_and_then (λ pick. option_map (λ row. row.kind) (slice_get feed.transfer_rules pick.rule.0)) place
+
+-- what the place of a change adds to the sum
+abbrev pub place_charge : FeedRows → Option ChangeChoice → ℤ
+place_charge feed place = option_map_or (pick_amount feed) place (pos 0)
 
 -- ---- what follows
 
@@ -103,33 +142,33 @@ next_move feed state held next taken =
     }
 
 -- the move with what follows, where its row numbers are an option for a first leg
-unfoldable pub move_of_first : FeedRows → Option RiderId → LegFacts → Move → Option Move
-move_of_first feed rider leg taken =
+unfoldable pub move_of_first : FeedRows → Buyer → LegFacts → Move → Option Move
+move_of_first feed buyer leg taken =
     option_and_then
     (λ first. when
-    (is_leg_choice feed rider leg (leg_taken taken) && is_none (place_taken taken) && is_whole taken)
+    (is_leg_choice feed buyer leg (leg_taken taken) && is_none (place_taken taken) && is_whole taken)
     (first_move feed first taken))
     (chosen_leg feed leg (leg_taken taken))
 
 -- and where they are one for a leg after the state
-unfoldable pub move_of_next : FeedRows → Option RiderId → FareState → ℤ → LegFacts → Move → Option Move
-move_of_next feed rider state held leg taken =
+unfoldable pub move_of_next : FeedRows → Buyer → FareState → ℤ → LegFacts → Move → Option Move
+move_of_next feed buyer state held leg taken =
     option_and_then
     (λ next. when
-    (is_leg_choice feed rider leg (leg_taken taken)
-    && is_place_after feed rider (asked_after state next) (place_taken taken)
+    (is_leg_choice feed buyer leg (leg_taken taken)
+    && is_place_after feed buyer (asked_after state next) (place_taken taken)
     && is_whole taken)
     (next_move feed state held next taken))
     (chosen_leg feed leg (leg_taken taken))
 
 -- the move with what follows, after the state or as a first leg; none where its row numbers are no option
-abbrev pub move_after : FeedRows → Option RiderId → Option FareState → ℤ → LegFacts → Move → Option Move
-move_after feed rider None held leg taken = move_of_first feed rider leg taken
-move_after feed rider (Some state) held leg taken = move_of_next feed rider state held leg taken
+abbrev pub move_after : FeedRows → Buyer → Option FareState → ℤ → LegFacts → Move → Option Move
+move_after feed buyer None held leg taken = move_of_first feed buyer leg taken
+move_after feed buyer (Some state) held leg taken = move_of_next feed buyer state held leg taken
 
 -- the moves are exactly those that there are, each once
-pub record AreMovesAfter (feed : FeedRows) (rider : Option RiderId) (state : Option FareState) (held : ℤ)
+pub record AreMovesAfter (feed : FeedRows) (buyer : Buyer) (state : Option FareState) (held : ℤ)
     (leg : LegFacts) (moves : List Move) : Type 0 where
-  pub right : All (λ move. move_after feed rider state held leg move ≡ Some move) moves
-  pub all : (move : Move) → move_after feed rider state held leg move ≡ Some move → Contains moves move
+  pub right : All (λ move. move_after feed buyer state held leg move ≡ Some move) moves
+  pub all : (move : Move) → move_after feed buyer state held leg move ≡ Some move → Contains moves move
   pub once : AllPairs (λ a b. a ≢ b) moves

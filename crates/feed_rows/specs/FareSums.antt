@@ -3,7 +3,7 @@
 use Rattle.std.specs.Prelude.{ℕ, zero, suc, Bool, true, false, not, ◌&&◌, ◌||◌, ◌==◌, if◌then◌else◌, List, length, slice_get, Option, is_none, ℤ, pos, ◌+ℤ◌, option_map, option_and_then}
 use Rattle.std.specs.Option.{option_map_or}
 use Rattle.transit_base.specs.declared.numbers.ProductRowId.{ProductRowId}
-use Rattle.transit_base.specs.declared.numbers.RiderId.{RiderId}
+use Rattle.feed_rows.specs.declared.journeys.Buyer.{Buyer}
 use Rattle.feed_rows.specs.declared.fares.ChangeChoice.{ChangeChoice}
 use Rattle.feed_rows.specs.declared.fares.Choice.{Choice}
 use Rattle.feed_rows.specs.declared.journeys.LegFacts.{LegFacts}
@@ -64,6 +64,6 @@ unfoldable pub fare_sum : FeedRows → Choice → ℤ
 fare_sum feed choice =
     sum_below (length choice.legs) (leg_charge feed choice) +ℤ sum_below (length choice.changes) (change_charge feed choice)
 
--- the price of the legs by the choice; none where it doesn't pay them for the rider
-abbrev pub fare_price : FeedRows → List LegFacts → Choice → Option RiderId → Option ℤ
-fare_price feed legs choice rider = when (is_fare_choice feed legs choice rider) (fare_sum feed choice)
+-- the price of the legs by the choice; none where it doesn't pay them for the buyer
+abbrev pub fare_price : FeedRows → List LegFacts → Choice → Buyer → Option ℤ
+fare_price feed legs choice buyer = when (is_fare_choice feed legs choice buyer) (fare_sum feed choice)

@@ -1,26 +1,26 @@
 -- What a query is offered, which triples are minimal, and which answer is exact.
 use Rattle.std.specs.Prelude.{◌≡◌, List, map, length, All, AllPairs, Any, Contains, Option, Some, IsTrue, ℤ, option_and_then}
+use Rattle.feed_rows.specs.declared.journeys.Buyer.{Buyer}
 use Rattle.feed_rows.specs.declared.journeys.Query.{Query}
 use Rattle.feed_rows.specs.declared.journeys.Ride.{Ride}
 use Rattle.feed_rows.specs.declared.fares.Choice.{Choice}
 use Rattle.feed_rows.specs.declared.fares.Triple.{Triple}
 use Rattle.feed_rows.specs.declared.fares.Entry.{Entry}
-use Rattle.transit_base.specs.declared.numbers.RiderId.{RiderId}
 use Rattle.feed_rows.specs.FeedRows.{FeedRows}
 use Rattle.feed_rows.specs.Journeys.{IsJourney}
 use Rattle.feed_rows.specs.Legs.{legs_of}
 use Rattle.feed_rows.specs.FareSums.{fare_price}
 use Rattle.feed_rows.specs.ParetoTriples.{at_most, is_before}
 
--- the price of rides by a choice; none where one is no ride of the feed, or the choice doesn't pay them for the rider
-abbrev pub rides_price : FeedRows → List Ride → Choice → Option RiderId → Option ℤ
-rides_price feed rides choice rider = option_and_then (λ legs. fare_price feed legs choice rider) (legs_of feed rides)
+-- the price of rides by a choice; none where one is no ride of the feed, or the choice doesn't pay them for the buyer
+abbrev pub rides_price : FeedRows → List Ride → Choice → Buyer → Option ℤ
+rides_price feed rides choice buyer = option_and_then (λ legs. fare_price feed legs choice buyer) (legs_of feed rides)
 
--- the entry's journey is one of the query, its choice pays it for the query's rider, and its triple is theirs
+-- the entry's journey is one of the query, its choice pays it for the query's buyer, and its triple is theirs
 pub record IsEntry (feed : FeedRows) (query : Query) (entry : Entry) : Type 0 where
   pub journey : IsJourney feed query entry.journey entry.triple.arrival.0
   pub rides : entry.triple.rides ≡ length entry.journey.rides
-  pub price : rides_price feed entry.journey.rides entry.choice query.rider ≡ Some entry.triple.price.0
+  pub price : rides_price feed entry.journey.rides entry.choice query.buyer ≡ Some entry.triple.price.0
 
 -- some fare-covered journey of the query has this triple
 abbrev pub IsOffered : FeedRows → Query → Triple → Type 0

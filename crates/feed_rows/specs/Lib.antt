@@ -16,10 +16,11 @@ pub mod FareChoices
 pub mod OpenRows
 pub mod FareGaps
 pub mod FareSums
-pub mod FareStands
 pub mod LeastPrices
 pub mod FareStates
+pub mod SameStates
 pub mod FareSteps
+pub mod FareStands
 pub mod FareExtensions
 pub mod ParetoTriples
 pub mod JourneyEntries

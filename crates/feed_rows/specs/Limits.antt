@@ -12,6 +12,10 @@ least_shift = negsuc 699_999
 abbrev pub most_shift : ℤ
 most_shift = pos 700_000
 
+-- the most rides that the words of a plan or a price may ask for (profile)
+abbrev pub most_rides : ℕ
+most_rides = 8
+
 -- the seconds within which a journey arrives where the query doesn't say, and the most that it may say (profile)
 abbrev pub usual_window : ℕ
 usual_window = 86_400

@@ -38,7 +38,7 @@ pub record IsPartialJourney (feed : FeedRows) (query : Query) (part : PartialJou
   pub begins : IsTrue (catches_first feed query (journey_to part.first part))
   pub goes_on : (i : ℕ) → i + 1 < length part.rides → IsTrue (catches_next feed part.rides i)
   pub in_time : All (λ ride. IsTrue (arrives_in_window feed query ride)) part.rides
-  pub pays : IsSome (rides_price feed part.rides part.choice query.rider)
+  pub pays : IsSome (rides_price feed part.rides part.choice query.buyer)
 
 -- where one stands after n rides: where the last of them alights, or at the first stop
 abbrev pub stop_after : FeedRows → PartialJourney → ℕ → Option StopId

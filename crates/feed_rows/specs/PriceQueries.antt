@@ -1,7 +1,6 @@
 -- The rides that the words of `price` name over a feed.
 use Rattle.std.specs.Prelude.{ℕ, ◌+◌, ◌-◌, ◌==◌, not, List, length, Option, Some, None, Result, Ok, Err, ℤ, pos, ◌-ℤ◌}
 use Rattle.transit_base.specs.declared.numbers.TripId.{TripId}
-use Rattle.transit_base.specs.declared.numbers.RiderId.{RiderId}
 use Rattle.plain_laws.specs.Plain.{when, at_and, find_below, given}
 use Rattle.feed_rows.specs.NumberedItems.{read_each}
 use Rattle.feed_rows.specs.FeedRows.{FeedRows}
@@ -13,6 +12,7 @@ use Rattle.feed_rows.specs.RideWords.{RideWord}
 use Rattle.feed_rows.specs.Requests.{PriceRequest}
 use Rattle.feed_rows.specs.Queries.{find_trip, chosen_rider}
 use Rattle.feed_rows.specs.UsageFaults.{unless_fault}
+use Rattle.feed_rows.specs.declared.journeys.Buyer.{Buyer}
 use Rattle.feed_rows.specs.declared.journeys.Ride.{Ride}
 use Rattle.feed_rows.specs.declared.usage.UsageFault.{UsageFault}
 use Rattle.feed_rows.specs.declared.usage.UsageFault.TheVariants as usage
@@ -51,16 +51,16 @@ abbrev pub unless_missed : List Ride → Option ℕ → Result (List Ride) Usage
 unless_missed rides None = Ok rides
 unless_missed rides (Some i) = Err (usage.NoChange (i + 1))
 
--- rides to be priced for a rider
+-- rides to be priced for a buyer
 pub record PriceQuery : Type 0 where
   pub rides : List Ride
-  pub rider : Option RiderId
+  pub buyer : Buyer
 
--- the rides and the rider, or the first fault of the names that the words give: rides that the feed lacks come before
+-- the rides and the buyer, or the first fault of the names that the words give: rides that the feed lacks come before
 -- changes that can't be made, and these before the rider
 abbrev pub price_query_of : FeedRows → PriceRequest → Result PriceQuery UsageFault
 price_query_of feed request =
     unless_fault (named_rides feed request.rides) (λ named.
     unless_fault (unless_missed named (first_missed feed named)) (λ rides.
     unless_fault (chosen_rider feed request.rider) (λ rider.
-    Ok (record { rides = rides; rider = rider }))))
+    Ok (record { rides = rides; buyer = record { rider = rider } }))))

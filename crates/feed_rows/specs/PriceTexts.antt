@@ -1,7 +1,7 @@
 -- The least price of given rides, and its printed text.
-use Rattle.std.specs.Prelude.{◌≡◌, ℕ, ◌+◌, ◌<◌, ◌⊎◌, All, IsTrue, List, [], ◌∷◌, ◌++◌, length, Option, ℤ, codes, decimal}
+use Rattle.std.specs.Prelude.{◌≡◌, ℕ, ◌+◌, ◌<◌, ◌⊎◌, All, IsTrue, List, [], ◌∷◌, ◌++◌, length, ℤ, codes, decimal}
 use Rattle.std.specs.List.{concat}
-use Rattle.transit_base.specs.declared.numbers.RiderId.{RiderId}
+use Rattle.feed_rows.specs.declared.journeys.Buyer.{Buyer}
 use Rattle.feed_rows.specs.declared.journeys.Ride.{Ride}
 use Rattle.feed_rows.specs.declared.fares.Choice.{Choice}
 use Rattle.feed_rows.specs.FeedRows.{FeedRows}
@@ -17,13 +17,13 @@ pub record AreJoinedRides (feed : FeedRows) (rides : List Ride) : Type 0 where
   pub are_rides : All (λ ride. IsTrue (is_ride feed ride)) rides
   pub goes_on : (i : ℕ) → i + 1 < length rides → IsTrue (catches_next feed rides i)
 
--- the choice pays the rides for the rider at this price, and no other choice pays them at less
-abbrev pub IsLeastPrice : FeedRows → List Ride → Option RiderId → Choice → ℤ → Type 0
-IsLeastPrice feed rides rider choice price = IsLeastBy (λ c. rides_price feed rides c rider) choice price
+-- the choice pays the rides for the buyer at this price, and no other choice pays them at less
+abbrev pub IsLeastPrice : FeedRows → List Ride → Buyer → Choice → ℤ → Type 0
+IsLeastPrice feed rides buyer choice price = IsLeastBy (λ c. rides_price feed rides c buyer) choice price
 
--- no choice pays the rides for the rider
-abbrev pub IsUncovered : FeedRows → List Ride → Option RiderId → Type 0
-IsUncovered feed rides rider = HasNoPrice (λ c. rides_price feed rides c rider)
+-- no choice pays the rides for the buyer
+abbrev pub IsUncovered : FeedRows → List Ride → Buyer → Type 0
+IsUncovered feed rides buyer = HasNoPrice (λ c. rides_price feed rides c buyer)
 
 -- the line of the price of so many rides, and the fare lines of the choice
 unfoldable pub price_text : FeedRows → ℕ → Choice → ℤ → List ℕ
@@ -35,12 +35,12 @@ abbrev pub uncovered_text : List ℕ
 uncovered_text = line (codes "uncovered") []
 
 -- the text is that of a choice of the least price, or tells that no choice pays the rides
-abbrev pub IsTextOfLeastPrice : FeedRows → List Ride → Option RiderId → List ℕ → Type 0
-IsTextOfLeastPrice feed rides rider text =
-    ((choice : Choice) × (price : ℤ) × IsLeastPrice feed rides rider choice price
+abbrev pub IsTextOfLeastPrice : FeedRows → List Ride → Buyer → List ℕ → Type 0
+IsTextOfLeastPrice feed rides buyer text =
+    ((choice : Choice) × (price : ℤ) × IsLeastPrice feed rides buyer choice price
     × (text ≡ price_text feed (length rides) choice price))
-    ⊎ (IsUncovered feed rides rider × (text ≡ uncovered_text))
+    ⊎ (IsUncovered feed rides buyer × (text ≡ uncovered_text))
 
 -- the rides follow one another, and the text is that of their least price
-abbrev pub IsPriceText : FeedRows → List Ride → Option RiderId → List ℕ → Type 0
-IsPriceText feed rides rider text = AreJoinedRides feed rides × IsTextOfLeastPrice feed rides rider text
+abbrev pub IsPriceText : FeedRows → List Ride → Buyer → List ℕ → Type 0
+IsPriceText feed rides buyer text = AreJoinedRides feed rides × IsTextOfLeastPrice feed rides buyer text

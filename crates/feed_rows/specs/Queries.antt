@@ -68,5 +68,5 @@ query_of feed request =
       departure = record { 0 = request.departure };
       rides = request.rides;
       window = request.window;
-      rider = rider;
+      buyer = record { rider = rider };
     }))))

@@ -2,6 +2,9 @@
 use plain_laws::{AscendingList, ItemList};
 use transit_base::{AreaId, Day, FrameId, Moment, NetworkId, RiderId, StopId, TripId};
 
+/// The most rides that the words of a plan or a price may ask for.
+pub const MOST_RIDES: u32 = 8;
+
 /// The seconds after the departure within which a journey arrives, where the traveller doesn't say.
 pub const USUAL_WINDOW: u32 = 86_400;
 
@@ -9,6 +12,16 @@ pub const USUAL_WINDOW: u32 = 86_400;
 pub const LEAST_SHIFT: i64 = -700_000;
 /// See [`LEAST_SHIFT`].
 pub const MOST_SHIFT: i64 = 700_000;
+
+/// Who buys the tickets of a journey.
+#[derive(Clone, Copy)]
+pub struct Buyer {
+    /// The rider category; none where no category is named and none is marked as default.
+    pub rider: Option<RiderId>,
+}
+
+/// Who buys without a rider category.
+pub const NO_CATEGORY: Buyer = Buyer { rider: None };
 
 /// What a traveller asks: the journeys from a stop to a stop from a moment on.
 #[derive(Clone, Copy)]
@@ -23,8 +36,8 @@ pub struct Query {
     pub rides: u8,
     /// The seconds after the departure within which a journey arrives.
     pub window: u32,
-    /// The rider category.
-    pub rider: Option<RiderId>,
+    /// Who pays for the rides.
+    pub buyer: Buyer,
 }
 
 /// A call of a trip at a stop, with its times filled in.

@@ -21,14 +21,14 @@ pub use feed::{
 };
 pub use ids::Id;
 pub use journeys::{
-    AreaList, Call, FrameList, Journey, LEAST_SHIFT, LegFacts, LegList, MOST_SHIFT, Pair, Query,
-    Ride, RideFacts, RideList, Shifts, USUAL_WINDOW,
+    AreaList, Buyer, Call, FrameList, Journey, LEAST_SHIFT, LegFacts, LegList, MOST_RIDES,
+    MOST_SHIFT, NO_CATEGORY, Pair, Query, Ride, RideFacts, RideList, Shifts, USUAL_WINDOW,
 };
 pub use rows::{
-    AreaRow, ExceptionRow, FrequencyRow, LegRuleRow, Limit, LinkRow, MediumRow, PLATFORM,
-    ProductRow, RiderRow, RouteRow, STATION, ServiceRow, StopAreaRow, StopRow, StopTimeRow,
-    TimeframeRow, TransferRuleRow, TripRow,
+    AreaRow, CHANGE_ALONE, ExceptionRow, FrequencyRow, LEG_BEFORE_AND_CHANGE, LegRuleRow, Limit,
+    LinkRow, MediumRow, PLATFORM, ProductRow, RiderRow, RouteRow, STATION, ServiceRow, StopAreaRow,
+    StopRow, StopTimeRow, TimeframeRow, TransferRuleRow, TripRow, includes_leg_after,
 };
-pub use states::{FareState, Move, Moves};
+pub use states::{FareState, Move, Moves, same_group};
 pub use times::CallTime;
 pub use usage::{StopWord, UsageFault, WordRole};

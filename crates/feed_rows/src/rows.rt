@@ -1,4 +1,7 @@
 //! One struct for the rows of each file. Ids are resolved to row numbers, and empty fields to `None` or their default.
+ghost use Rattle.std.specs.Prelude.{◌≡◌};
+ghost use Rattle.feed_rows.specs.Codes.{includes_leg_after};
+
 use crate::ids::Id;
 use crate::times::CallTime;
 use transit_base::{
@@ -11,6 +14,19 @@ pub const PLATFORM: u8 = 0;
 
 /// The `location_type` of a station.
 pub const STATION: u8 = 1;
+
+/// The `fare_transfer_type` under which the leg before a change and the change are paid, and the leg after it is included.
+pub const LEG_BEFORE_AND_CHANGE: u8 = 0;
+
+/// The `fare_transfer_type` under which the change alone is paid, and the legs before and after it are included.
+pub const CHANGE_ALONE: u8 = 2;
+
+/// Whether the leg after a change of this `fare_transfer_type` is included in it.
+pub fn includes_leg_after(kind: u8) -> bool
+    ensures { result ≡ includes_leg_after kind }
+{
+    kind == LEG_BEFORE_AND_CHANGE || kind == CHANGE_ALONE
+}
 
 /// A row of `stops.txt`: a platform, a station, or a place of another kind.
 #[derive(Drop)]

@@ -1,4 +1,7 @@
 //! The state of fares along a journey, and one step of them, as plain data.
+ghost use Rattle.std.specs.Prelude.{◌≡◌};
+ghost use Rattle.feed_rows.specs.TransferRules.{same_group};
+
 use plain_laws::ItemList;
 use transit_base::{LegGroupId, Moment, Money, ProductRowId, RuleId, XferId};
 
@@ -18,7 +21,7 @@ pub struct FareState {
 }
 
 /// One more leg: what pays it and the change to it, and what follows.
-#[derive(Clone, Copy)]
+#[derive(Clone, Copy, PartialEq, Eq)]
 pub struct Move {
     /// The state after the leg.
     pub state: FareState,
@@ -38,3 +41,13 @@ pub struct Move {
 
 /// The moves of a leg, each once.
 pub type Moves = ItemList<Move>;
+
+/// Whether both groups are there, and equal.
+pub fn same_group(a: Option<LegGroupId>, b: Option<LegGroupId>) -> bool
+    ensures { result ≡ same_group a b }
+{
+    match (a, b) {
+        (Some(g), Some(h)) => g.0 == h.0,
+        _ => false,
+    }
+}

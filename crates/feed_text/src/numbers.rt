@@ -2,11 +2,13 @@
 ghost use Rattle.std.specs.Prelude.{◌≡◌, ◌-◌, ◌^◌, ◌≤◌, ℕ, true, false, Some, IfSome, IfNone, option_map};
 ghost use Rattle.std.specs.Char.{is_ascii_digit};
 ghost use Rattle.feed_rows.specs.Numerals.{number_value, when_at_most};
+ghost use Rattle.feed_rows.specs.RideWords.{start_value};
 ghost use Rattle.feed_rows.specs.TimeGrammar.{time_value};
+ghost use Rattle.transit_base.specs.Limits.{most_time};
 ghost use Rattle.feed_rows.specs.WordValues.{day_value};
 ghost use Rattle.feed_faults.specs.FieldGrammars.{int_value, count_value, date_value};
 
-use transit_base::{Day, day_of};
+use transit_base::{Day, MOST_TIME, day_of};
 
 // The number that a digit writes.
 #[inline(always)]
@@ -122,6 +124,18 @@ pub fn time_of(text: &[u8], most: u32) -> Option<u32>
         return Some(value);
     }
     parted_time_of(text, most)
+}
+
+/// The first departure of a run, or `-` where none is given.
+pub fn start_in(text: &[u8]) -> Option<Option<u32>>
+    ensures value { result ≡ start_value text.now }
+    ensures high { IfSome result (λ start. IfSome start (λ s. s ≤ most_time)) }
+{
+    if text == b"-".as_slice() {
+        return Some(None);
+    }
+    let start = time_of(text, MOST_TIME)?;
+    Some(Some(start))
 }
 
 /// The value of an integer: an optional minus sign and one or more digits, leading zeros among them. None exactly where the

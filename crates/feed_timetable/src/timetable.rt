@@ -17,6 +17,7 @@ ghost use Rattle.feed_rows.specs.JourneyStands.{way_to, way_out, end_arrival};
 ghost use Rattle.feed_timetable.specs.Standings.{stand_of, IsNear, AreShifts};
 ghost use Rattle.feed_timetable.specs.ServicesOn.{services_on};
 ghost use Rattle.feed_walks.specs.OutOf.{out_of};
+ghost use Rattle.feed_calendar.specs.BuiltCalendar.{IsCalendarOf};
 
 use crate::standing::Standing;
 use feed_calendar::Calendar;
@@ -151,6 +152,13 @@ impl<'f> Timetable<'f> {
         ensures { result.now ≡ out_of self.now platform }
     {
         self.walks.out_of(platform)
+    }
+
+    /// The service calendar of the feed.
+    pub fn calendar(&self) -> &Calendar
+        ensures { IsCalendarOf self.now result.now }
+    {
+        &self.calendar
     }
 
     /// Whether the trip's service is active on the day.
@@ -294,11 +302,12 @@ impl<'f> Timetable<'f> {
         if first.0 == boarding.0 { Some(0) } else { None }
     }
 
-    // The seconds from where a journey's last ride alights to its last stop.
-    fn egress(&self, query: &Query, alighting: StopId, last: StopId) -> Option<u32>
-        ensures { result ≡ egress self.now query.now alighting last }
+    /// The seconds from where a journey's last ride alights to its last stop, where it goes to this stop; none where it
+    /// doesn't end there.
+    pub fn egress(&self, to: StopId, alighting: StopId, last: StopId) -> Option<u32>
+        ensures { (query : Query) → query.to ≡ to → result ≡ egress self.now query alighting last }
     {
-        if !self.stands_for(query.to, alighting) {
+        if !self.stands_for(to, alighting) {
             return self.link_seconds(alighting, last);
         }
         if alighting.0 == last.0 { Some(0) } else { None }
@@ -332,7 +341,7 @@ impl<'f> Timetable<'f> {
         if standing.fresh {
             self.direct(standing.stop, last)
         } else {
-            self.egress(query, standing.stop, last)
+            self.egress(query.to, standing.stop, last)
         }
     }
 

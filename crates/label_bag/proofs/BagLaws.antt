@@ -4,7 +4,7 @@ use Rattle.std.specs.Prelude.{Option, None, Some, IfNone, IfSome, is_some, Resul
 use Rattle.std.specs.List.{HoldsAt}
 use Rattle.std.specs.Result.{is_err}
 use Rattle.std.proofs.lemmas.List.Edits.{insert_end}
-use Rattle.std.proofs.lemmas.List.Elements.{All-filter, All-weaker, All-contains_itself, All-cons, All-nil, All-push, All-contains, filter_passes, Contains-append_left, Contains-append_right, Contains-push}
+use Rattle.std.proofs.lemmas.List.Elements.{All-append, All-filter, All-weaker, All-contains_itself, All-cons, All-nil, All-contains, filter_passes, Contains-append_left, Contains-append_right, Contains-push}
 use Rattle.std.proofs.lemmas.List.Folds.{list_any_at, list_any_none}
 use Rattle.std.proofs.lemmas.List.Kept.{AllPairs-filter}
 use Rattle.std.proofs.lemmas.List.Sorted.{IsPermutation-insert, list_any-IsPermutation, All-permutation}
@@ -78,23 +78,24 @@ module _ {X : Type 0} (at_most : X → X → Bool) where
   unfolding Either
   gathers-none xs = record { still = λ x h. h; each = All-nil (λ x. covers at_most xs x ≡ true); from = old_members xs [] }
 
-  -- one label more
-  pub gathers-more : (old mid new labels : List X) (e : X) → Gathers at_most old labels mid → Gathers at_most mid (e ∷ []) new → Gathers at_most old (labels ++ e ∷ []) new
+  -- some labels, and then others
+  pub gathers-then : (old mid new first second : List X) → Gathers at_most old first mid → Gathers at_most mid second new →
+      Gathers at_most old (first ++ second) new
   unfolding Either
-  gathers-more old mid new labels e before last = record {
+  gathers-then old mid new first second before last = record {
     still = λ x h. last.still x (before.still x h);
-    each = All-push (λ x. covers at_most new x ≡ true) labels e
-        (All-weaker (λ x. covers at_most mid x ≡ true) (λ x. covers at_most new x ≡ true) last.still labels before.each) (last.each 0 e (omega arith));
+    each = All-append (λ x. covers at_most new x ≡ true) first second
+        (All-weaker (λ x. covers at_most mid x ≡ true) (λ x. covers at_most new x ≡ true) last.still first before.each) last.each;
     from = λ k d lt. by (get_or new k d) (last.from k d lt);
   }
     where
-      back : (x : X) → Contains old x ⊎ Contains labels x → Contains old x ⊎ Contains (labels ++ e ∷ []) x
+      back : (x : X) → Contains old x ⊎ Contains first x → Contains old x ⊎ Contains (first ++ second) x
       back x (inl was) = inl was
-      back x (inr one) = inr (Contains-append_left labels (e ∷ []) x one)
+      back x (inr one) = inr (Contains-append_left first second x one)
 
-      by : (x : X) → Contains mid x ⊎ Contains (e ∷ []) x → Contains old x ⊎ Contains (labels ++ e ∷ []) x
-      by x (inl was) = back x (All-contains (λ x. Contains old x ⊎ Contains labels x) mid x before.from was)
-      by x (inr one) = inr (Contains-append_right labels (e ∷ []) x one)
+      by : (x : X) → Contains mid x ⊎ Contains second x → Contains old x ⊎ Contains (first ++ second) x
+      by x (inl was) = back x (All-contains (λ x. Contains old x ⊎ Contains first x) mid x before.from was)
+      by x (inr one) = inr (Contains-append_right first second x one)
 
   -- what a covered offer gathers
   pub gathers-covered : (xs : List X) (i : ℕ) (e : X) → i < length xs → at_most (get_or xs i e) e ≡ true → Gathers at_most xs (e ∷ []) xs

@@ -6,7 +6,7 @@ use crate::readings;
 use fare_automaton::Automaton;
 use fare_products::Products;
 use fare_transfer_rules::XferRules;
-use feed_rows::{FareState, Feed, LegFacts, Move, TransferFacts};
+use feed_rows::{FareState, Feed, LegFacts, Move, NO_CATEGORY, TransferFacts};
 use std::alloc::{AllocError, Global};
 use transit_base::{LegGroupId, Moment, Money, NetworkId, ProductId, ProductRowId, RuleId, XferId};
 
@@ -28,21 +28,10 @@ fn state_of(group: u32, first: bool) -> FareState {
     }
 }
 
-// Whether both moves take the same rows, and the same follows.
-fn is_same(a: &Move, b: &Move) -> bool {
-    a.state == b.state
-        && a.paid.0 == b.paid.0
-        && a.held.0 == b.held.0
-        && a.rule == b.rule
-        && a.product == b.product
-        && a.xfer == b.xfer
-        && a.xfer_product == b.xfer_product
-}
-
 // Whether the moves are this one alone.
 fn is_only(moves: &[Move], wanted: &Move) -> bool {
     match moves {
-        [own] => is_same(own, wanted),
+        [own] => *own == *wanted,
         _ => false,
     }
 }
@@ -114,7 +103,7 @@ fn are_steps(automaton: &Automaton, alloc: Global) -> bool {
 
 // Whether the moves over the feed are those that were worked by hand.
 fn are_moves(alloc: Global, feed: &Feed) -> bool {
-    match Automaton::compile(alloc, feed, None) {
+    match Automaton::compile(alloc, feed, NO_CATEGORY) {
         Ok(automaton) => are_starts(&automaton, alloc) && are_steps(&automaton, alloc),
         Err(AllocError) => false,
     }
@@ -154,7 +143,7 @@ fn are_change_rows(alloc: Global, feed: &Feed) -> bool {
 
 // Whether these rows of a product are open.
 fn are_open(products: &Products, alloc: Global, product: u32, wanted: &[ProductRowId]) -> bool {
-    match products.open_rows(alloc, ProductId(product), None) {
+    match products.open_rows(alloc, ProductId(product), NO_CATEGORY) {
         Ok(rows) => rows.items() == wanted,
         Err(AllocError) => false,
     }
@@ -220,7 +209,7 @@ fn by(
 fn are_same(moves: &[Move], wanted: &[Move; 3]) -> bool {
     let [first, second, third] = wanted;
     match moves {
-        [a, b, c] => is_same(a, first) && is_same(b, second) && is_same(c, third),
+        [a, b, c] => *a == *first && *b == *second && *c == *third,
         _ => false,
     }
 }
@@ -270,7 +259,7 @@ fn is_charged_as_worked(alloc: Global) -> bool {
     let Ok(feed) = feed_with(alloc, CHARGED) else {
         return false;
     };
-    match Automaton::compile(alloc, &feed, None) {
+    match Automaton::compile(alloc, &feed, NO_CATEGORY) {
         Ok(automaton) => goes_to_land(&automaton, alloc) && goes_to_town(&automaton, alloc),
         Err(AllocError) => false,
     }
@@ -296,7 +285,7 @@ fn has_floor(alloc: Global, products: &[u8], rows: &[u8], wanted: Money) -> bool
     let Ok(feed) = feed_by(alloc, products, rows) else {
         return false;
     };
-    match Automaton::compile(alloc, &feed, None) {
+    match Automaton::compile(alloc, &feed, NO_CATEGORY) {
         Ok(automaton) => automaton.floor().0 == wanted.0,
         Err(AllocError) => false,
     }
@@ -438,7 +427,7 @@ fn least_of_runs(
     feed: &Feed,
     legs: &[LegFacts; 3],
 ) -> Result<Option<Money>, AllocError> {
-    match Automaton::compile(alloc, feed, None) {
+    match Automaton::compile(alloc, feed, NO_CATEGORY) {
         Ok(automaton) => Ok(least_sum(&runs_of(&automaton, alloc, legs)?)),
         Err(AllocError) => Err(AllocError),
     }

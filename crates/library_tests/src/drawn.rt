@@ -4,7 +4,7 @@ ghost use Rattle.plan_rides.specs.InTime.{IsUsualQuery};
 
 use crate::feeds::feed_of;
 use feed_files::FileName;
-use feed_rows::{Feed, Query};
+use feed_rows::{Buyer, Feed, Query};
 use std::alloc::{AllocError, Global};
 use transit_base::{Moment, RiderId, StopId};
 
@@ -160,7 +160,7 @@ pub fn drawn_feed(alloc: Global, seed: u32) -> Result<Feed, AllocError> {
 }
 
 // From A to G on 2 June 2025 at 07:00:00 within an hour, by two to four rides, for one rider or the other.
-pub fn query_of(seed: u32) -> Query
+pub fn drawn_query(seed: u32) -> Query
     ensures { IsUsualQuery result }
 {
     Query {
@@ -169,6 +169,8 @@ pub fn query_of(seed: u32) -> Query
         departure: Moment(20_241 * 86_400 + 25_200),
         rides: 2 + (seed / 2 % 3) as u8,
         window: 3_600,
-        rider: Some(RiderId(seed % 2)),
+        buyer: Buyer {
+            rider: Some(RiderId(seed % 2)),
+        },
     }
 }

@@ -3,7 +3,8 @@ use crate::feeds::feed_of;
 use fare_price::{Fares, price, verify};
 use feed_files::FileName;
 use feed_rows::{
-    AreaList, ChangeChoice, ChangeChoices, Choice, Feed, FrameList, LegChoice, LegChoices, LegFacts,
+    AreaList, ChangeChoice, ChangeChoices, Choice, Feed, FrameList, LegChoice, LegChoices,
+    LegFacts, NO_CATEGORY,
 };
 use std::alloc::{AllocError, Global};
 use transit_base::{Moment, Money, ProductRowId, RuleId, XferId};
@@ -136,7 +137,7 @@ fn least_sum(
     let all = LEG_CHOICES * LEG_CHOICES * LEG_CHOICES * CHANGE_CHOICES * CHANGE_CHOICES;
     for number in 0..all {
         let choice = choice_of(alloc, number)?;
-        if let Some(sum) = verify(fares, legs, &choice, None) {
+        if let Some(sum) = verify(fares, legs, &choice, NO_CATEGORY) {
             least = match least {
                 Some(other) if other.0 <= sum.0 => Some(other),
                 _ => Some(sum),
@@ -162,7 +163,7 @@ fn price_by(
     alloc: Global,
     legs: &[LegFacts; 3],
 ) -> Result<Option<Money>, AllocError> {
-    match price(alloc, fares, legs, None)? {
+    match price(alloc, fares, legs, NO_CATEGORY)? {
         Some(priced) => Ok(Some(priced.sum)),
         None => Ok(None),
     }

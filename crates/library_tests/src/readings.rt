@@ -5,7 +5,7 @@ use crate::feeds::feed_of;
 use feed_files::FileName;
 use feed_rows::{
     ChangeChoice, ChangeChoices, Choice, Entries, Entry, Feed, Journey, LegChoice, LegChoices,
-    Query, Ride, RideList, Triple,
+    NO_CATEGORY, Query, Ride, RideList, Triple,
 };
 use feed_timetable::Timetable;
 use std::alloc::{AllocError, Global};
@@ -60,7 +60,7 @@ const QUERY: Query = Query {
     departure: Moment(1_748_851_200),
     rides: 4,
     window: 86_400,
-    rider: None,
+    buyer: NO_CATEGORY,
 };
 
 // From A to A at that time.
@@ -70,7 +70,7 @@ const STAY: Query = Query {
     departure: Moment(1_748_851_200),
     rides: 4,
     window: 86_400,
-    rider: None,
+    buyer: NO_CATEGORY,
 };
 
 const TWO_RIDES: &[u8] = b"journey\t2025-06-02 08:30:00\t2\t3.00\tEUR\n\

@@ -1,7 +1,7 @@
 // Plans by rounds, by an answer alone and by the table of all labels, beside those of the search that looks at all journeys.
 ghost use Rattle.plan_rides.specs.InTime.{IsUsualQuery};
 
-use crate::drawn::{drawn_feed, query_of};
+use crate::drawn::{drawn_feed, drawn_query};
 use feed_rows::{Entry, Feed, Query, Triple};
 use feed_timetable::Timetable;
 use pareto_front::are_same_triples;
@@ -61,7 +61,7 @@ const DRAWN_FEEDS: u32 = 100;
 fn is_found_over_all(alloc: Global) -> Result<bool, AllocError> {
     for number in 0..DRAWN_FEEDS {
         let feed = drawn_feed(alloc, number + 1)?;
-        if !is_found_over(alloc, &feed, &query_of(number + 1))? {
+        if !is_found_over(alloc, &feed, &drawn_query(number + 1))? {
             return Ok(false);
         }
     }

@@ -1,3 +1,3 @@
-pub mod EntryLaws
 pub mod Fronts
 pub mod Ranks
+pub mod TripleLaws

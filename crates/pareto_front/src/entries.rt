@@ -5,7 +5,8 @@ use feed_rows::Entry;
 
 impl Ranked for Entry {
     ghost use Rattle.feed_rows.specs.ParetoTriples.{at_most, is_before};
-    ghost use Rattle.pareto_front.specs.EntryLaws.{entry_laws};
+    ghost use Rattle.feed_rows.specs.declared.fares.Entry.{Entry};
+    ghost use Rattle.pareto_front.specs.TripleLaws.{triple_laws};
 
     ghost at_most = { λ a b. at_most a.triple b.triple };
 
@@ -19,5 +20,5 @@ impl Ranked for Entry {
         is_before(self.triple, other.triple)
     }
 
-    ghost laws = { entry_laws };
+    ghost laws = { triple_laws (λ (entry : Entry). entry.triple) };
 }

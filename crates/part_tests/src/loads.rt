@@ -1,11 +1,15 @@
 // Folders that are loaded, stop_times.txt piece by piece.
 ghost use Rattle.std.specs.Prelude.{IfOk, IsTrue};
-ghost use Rattle.folder_io.specs.KeptFiles.{are_whole};
+ghost use Rattle.feed_files.specs.HeldFiles.{most_bytes};
+ghost use Rattle.folder_io.specs.KeptFiles.{AreWithin, IsWithin, are_whole, is_whole};
 
-use feed_check::{LoadError, load};
+use feed_check::{LoadError, check, load};
 use feed_files::{FaultKind, FeedFault, FileName};
 use feed_rows::{CallTime, Feed};
-use folder_io::{ByteText, FileBytes, Files, Folder, MemFolder, Opened, Piece, SureFolder};
+use feed_text::TextError;
+use folder_io::{
+    ByteText, FileBytes, Files, Folder, MOST_BYTES, MemFolder, Opened, Piece, SureFolder,
+};
 use std::alloc::{AllocError, Global};
 
 // A folder in memory whose reads give at most so many bytes each, and one at least.
@@ -61,15 +65,26 @@ const OTHERS: [(FileName, &[u8]); 6] = [
     (FileName::FareLegRules, RULES),
 ];
 
+// A file of these bytes; none where they are more than are read.
+fn file_of(alloc: Global, bytes: &[u8]) -> Result<FileBytes, AllocError>
+    ensures whole { IfOk result (λ file. IsTrue (is_whole file)) }
+    ensures within { IfOk result (IsWithin most_bytes) }
+{
+    if bytes.len() > MOST_BYTES as usize {
+        return Ok(FileBytes::Absent);
+    }
+    Ok(FileBytes::Bytes(ByteText::copy_of(alloc, bytes)?))
+}
+
 // A feed with these stop times.
 fn files_with(alloc: Global, stop_times: &[u8]) -> Result<Files, AllocError>
-    ensures { IfOk result (λ files. IsTrue (are_whole files)) }
+    ensures whole { IfOk result (λ files. IsTrue (are_whole files)) }
+    ensures within { IfOk result AreWithin }
 {
     let mut files = Files::empty();
-    let stop_times = ByteText::copy_of(alloc, stop_times)?;
-    files.put(FileName::StopTimes, FileBytes::Bytes(stop_times));
+    files.put(FileName::StopTimes, file_of(alloc, stop_times)?);
     for (name, bytes) in &OTHERS {
-        files.put(*name, FileBytes::Bytes(ByteText::copy_of(alloc, bytes)?));
+        files.put(*name, file_of(alloc, bytes)?);
     }
     Ok(files)
 }
@@ -111,7 +126,16 @@ fn outcome_of<F: Folder>(alloc: Global, folder: &mut F) -> Result<Outcome, Alloc
     }
 }
 
-// The same of one with these stop times, whose reads give at most so many bytes each.
+// What the check of files with these stop times gives.
+fn checked_outcome(alloc: Global, stop_times: &[u8]) -> Result<Outcome, AllocError> {
+    match check(alloc, files_with(alloc, stop_times)?) {
+        Ok(feed) => Ok(Outcome::Numbers(numbers_of(alloc, &feed)?)),
+        Err(TextError::Fault(fault)) => Ok(Outcome::Fault(fault)),
+        Err(TextError::NoMemory) => Err(AllocError),
+    }
+}
+
+// What the load of a folder with these stop times gives, whose reads give at most so many bytes each.
 fn outcome_by(alloc: Global, stop_times: &[u8], most: usize) -> Result<Outcome, AllocError> {
     let mut folder = ShortFolder {
         folder: SureFolder::new(files_with(alloc, stop_times)?),
@@ -179,11 +203,22 @@ fn gives(alloc: Global, stop_times: &[u8], most: usize, wanted: &Outcome) -> boo
     }
 }
 
-// Whether these stop times give the same in pieces of any size.
+// Whether the check of files with these stop times gives this.
+fn is_checked_so(alloc: Global, stop_times: &[u8], wanted: &Outcome) -> bool {
+    match checked_outcome(alloc, stop_times) {
+        Ok(outcome) => are_alike(&outcome, wanted),
+        Err(AllocError) => false,
+    }
+}
+
+// Whether these stop times give the same in pieces of any size, and where the files are checked.
 fn is_same_in_pieces(alloc: Global, stop_times: &[u8]) -> bool {
     let Ok(whole) = outcome_by(alloc, stop_times, 65_536) else {
         return false;
     };
+    if !is_checked_so(alloc, stop_times, &whole) {
+        return false;
+    }
     for most in [1, 2, 3, 7] {
         if !gives(alloc, stop_times, most, &whole) {
             return false;

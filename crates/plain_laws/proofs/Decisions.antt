@@ -1,13 +1,15 @@
 -- Tests that decide facts, put together as the facts are: so a fact about rows that are written out is shown by computing.
 use Rattle.std.proofs.Common.{◌≡◌, refl, sym, ap, subst, ℕ, ◌<◌, ◌≤◌, ◌⊎◌, ℤ, ◌≤ℤ◌, int_le, Bool, true, false, not, ◌&&◌, ◌||◌, ◌==◌, nat_lt, nat_le, List, [], ◌∷◌, Option, Some, None, slice_get, get_or, is_some, option_and_then, All, AllPairs, arith}
-use Rattle.std.specs.Bool.{Decides}
+use Rattle.std.specs.Bool.{Decides, beq}
 use Rattle.std.specs.List.{list_all}
-use Rattle.std.specs.Option.{ForSome}
+use Rattle.std.specs.Option.{ForSome, option_eq}
+use Rattle.std.specs.Ordering.{int_eq}
 use Rattle.std.specs.Str.{bytes_eq}
+use Rattle.std.specs.Cmp.{booleans_Decides}
 use Rattle.std.specs.Cmp.Lexicographic.{bytes_decides}
 use Rattle.std.proofs.lemmas.Int.{ints}
 use Rattle.std.proofs.lemmas.Bool.{leb-true, le-leb}
-use Rattle.std.proofs.lemmas.Bool.Decides.{Decides-eqb, Decides-ltb, Decides-not, Decides-and, Decides-or, Decides-by_and, Decides-like, not_from_Decides}
+use Rattle.std.proofs.lemmas.Bool.Decides.{Decides-eqb, Decides-int_eq, Decides-ltb, Decides-not, Decides-and, Decides-or, Decides-by_and, Decides-like, not_from_Decides}
 use Rattle.std.proofs.lemmas.List.Kept.{AllPairs-cons}
 use Rattle.std.proofs.lemmas.Option.{slice_get_within, get_or_from_slice_get, slice_get-get_or, same_Some}
 use Rattle.plain_laws.specs.Items.{ForItem}
@@ -147,18 +149,31 @@ for_item_decides {X} p P test xs i =
 abbrev pub for_item : {X : Type 0} {P : X → Type 0} (xs : List X) (i : ℕ) → ((x : X) → Test (P x)) → Test (ForItem xs i P)
 for_item {X} {P} xs i test = record { passes = empty_or (slice_get xs i) (λ x. (test x).passes); decides = for_item_decides (λ x. (test x).passes) P (λ x. (test x).decides) xs i }
 
--- two fields hold one thing, which its number tells, or both none
-abbrev same_number : {X : Type 0} → (X → ℕ) → Option X → Option X → Bool
-same_number number None None = true
-same_number number None (Some y) = false
-same_number number (Some x) None = false
-same_number number (Some x) (Some y) = number x == number y
+-- whole numbers, as a derived test has them
+abbrev pub int_equals : (a b : ℤ) → Test (a ≡ b)
+int_equals a b = record { passes = int_eq a b; decides = Decides-int_eq a b }
 
-pub same_number_decides : {X : Type 0} (number : X → ℕ) → ((x y : X) → number x ≡ number y → x ≡ y) → (o p : Option X) → Decides (same_number number o p) (o ≡ p)
-same_number_decides number tells None None = (λ e. refl, λ e. refl)
-same_number_decides number tells None (Some y) = (λ e. absurd (cc), λ e. absurd (cc))
-same_number_decides number tells (Some x) None = (λ e. absurd (cc), λ e. absurd (cc))
-same_number_decides number tells (Some x) (Some y) = (λ e. ap Some (tells x y ((Decides-eqb (number x) (number y)).0 e)), λ e. (Decides-eqb (number x) (number y)).1 (ap number (same_Some x y e)))
+abbrev pub same_flag : (a b : Bool) → Test (a ≡ b)
+same_flag a b = record { passes = beq a b; decides = booleans_Decides a b }
+
+-- two things of one number
+abbrev pub same_id : {X : Type 0} (number : X → ℕ) → ((x y : X) → number x ≡ number y → x ≡ y) → (x y : X) → Test (x ≡ y)
+same_id number tells x y = likewise (is (number x) (number y)) (tells x y) (ap number)
+
+-- two fields hold one thing, or both none
+pub option_eq_decides : {X : Type 0} (same : X → X → Bool) → ((x y : X) → Decides (same x y) (x ≡ y)) → (o p : Option X) →
+    Decides (option_eq same o p) (o ≡ p)
+option_eq_decides same tells None None = (λ e. refl, λ e. refl)
+option_eq_decides same tells None (Some y) = (λ e. absurd (cc), λ e. absurd (cc))
+option_eq_decides same tells (Some x) None = (λ e. absurd (cc), λ e. absurd (cc))
+option_eq_decides same tells (Some x) (Some y) = (λ e. ap Some ((tells x y).0 e), λ e. (tells x y).1 (same_Some x y e))
+
+abbrev pub same_option : {X : Type 0} → ((x y : X) → Test (x ≡ y)) → (o p : Option X) → Test (o ≡ p)
+same_option test o p =
+    record {
+      passes = option_eq (λ x y. (test x y).passes) o p;
+      decides = option_eq_decides (λ x y. (test x y).passes) (λ x y. (test x y).decides) o p;
+    }
 
 abbrev pub same_field : {X : Type 0} (number : X → ℕ) → ((x y : X) → number x ≡ number y → x ≡ y) → (o p : Option X) → Test (o ≡ p)
-same_field number tells o p = record { passes = same_number number o p; decides = same_number_decides number tells o p }
+same_field number tells = same_option (same_id number tells)

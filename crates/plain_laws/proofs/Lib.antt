@@ -1,3 +1,4 @@
+pub mod AddsLaws
 pub mod AscendingLaws
 pub mod BelowLaws
 pub mod ByteMapLaws
@@ -6,6 +7,7 @@ pub mod FilterLaws
 pub mod InsertLaws
 pub mod JoinedLaws
 pub mod LeastLaws
+pub mod LesserLaws
 pub mod NumberLaws
 pub mod OptionalLaws
 pub mod OrderLaws

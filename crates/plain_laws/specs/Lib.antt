@@ -1,7 +1,9 @@
+pub mod Adds
 pub mod Ascending
 pub mod Below
 pub mod Given
 pub mod Items
+pub mod Lesser
 pub mod Numbers
 pub mod Optional
 pub mod Steps

@@ -9,7 +9,7 @@ use Rattle.feed_rows.specs.declared.usage.UsageFault.{UsageFault}
 use Rattle.folder_io.specs.FileReading.{Gives}
 use Rattle.folder_io.specs.FolderCalls.{Contents, FolderState}
 use Rattle.folder_io.specs.SinkCalls.{SinkState}
-use Rattle.plan_words.specs.Words.{asked_of}
+use Rattle.plan_words.specs.Words.{read_command}
 use Rattle.command_answers.specs.Due.{Task, task_for, due, IsDue}
 use Rattle.plan_app.specs.Run.{asks_folder, writes_nothing, WhereRead, Explains, AnswersAll}
 use Rattle.command_answers.specs.declared.refusal.Refusal.{Refusal}
@@ -50,11 +50,11 @@ same_due folder later files other (Ok Request.Check) may gives = rw ((may refl).
 
 module _ (words : List (List ℕ)) (folder later : FolderState) (sink after : SinkState) (came : Status) where
   -- a task that is due over them is answered, or memory was wanting, where no write failed
-  answered : (files : FileName → HeldFile) (task : Task) → MayBeAsked (asks_folder (asked_of words)) folder later files
+  answered : (files : FileName → HeldFile) (task : Task) → MayBeAsked (asks_folder (read_command words)) folder later files
       → due files words ≡ Ok task → ¬ (Rose sink.faults after.faults) → Explains words folder later sink after came
       → (came ≡ status.Answered) ⊎ (came ≡ status.NoMemory)
   answered files task may is no_write (Explains.Whole lines over reads writes) =
-      let same = same_due folder later files over.files (asked_of words) may over.gives in
+      let same = same_due folder later files over.files (read_command words) may over.gives in
       inl (subst (λ task. IsDue task came lines) (same ∙ is) over.is_due).0
   answered files task may is no_write (Explains.Part told lines over reads writes late) =
       absurd (no_write writes.counts)
@@ -64,7 +64,7 @@ module _ (words : List (List ℕ)) (folder later : FolderState) (sink after : Si
   -- so what can be answered is, where nothing fails outside
   pub all_answered : Explains words folder later sink after came → AnswersAll words folder later sink after came
   all_answered why =
-      where_read (asks_folder (asked_of words)) folder later _
+      where_read (asks_folder (read_command words)) folder later _
       (λ files may task is no_write. answered files task may is no_write why)
 
 -- what is due is no answer that writes nothing

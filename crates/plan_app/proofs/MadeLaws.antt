@@ -18,7 +18,7 @@ use Rattle.feed_rows.specs.declared.fares.Entry.{Entry}
 use Rattle.feed_rows.specs.declared.journeys.Query.{Query}
 use Rattle.feed_files.specs.declared.faults.FeedFault.{FeedFault}
 use Rattle.feed_files.specs.declared.names.FileName.{FileName}
-use Rattle.plan_words.specs.Words.{asked_of}
+use Rattle.plan_words.specs.Words.{read_command}
 use Rattle.feed_laws.proofs.GeneratedLaws.{exact_triples}
 use Rattle.folder_io.specs.FolderCalls.{Contents, FolderState}
 use Rattle.folder_io.proofs.LogLaws.{makes_none}
@@ -47,7 +47,7 @@ read_stops false folder later same =
 -- ---- what is due over a folder, for words that ask for a request
 
 pub due_over : (folder : FolderState) (words : List (List ℕ)) (request : Request) (feed : FeedRows) (told : Status) (text : List (List ℕ))
-    → IsFeedFor folder request feed → Ok request ≡ asked_of words → IsDue (task_of feed request) told text → IsDueOver folder words told text
+    → IsFeedFor folder request feed → Ok request ≡ read_command words → IsDue (task_of feed request) told text → IsDueOver folder words told text
 due_over folder words request feed told text of asked is = record {
   files = of.files;
   gives = of.gives;
@@ -55,7 +55,7 @@ due_over folder words request feed told text of asked is = record {
 }
 
 pub refused_over : (folder : FolderState) (words : List (List ℕ)) (request : Request) (fault : FeedFault) (told : Status) (text : List (List ℕ))
-    → IsFaultFor folder request fault → Ok request ≡ asked_of words → IsDue (Err (refusal.Feed fault)) told text → IsDueOver folder words told text
+    → IsFaultFor folder request fault → Ok request ≡ read_command words → IsDue (Err (refusal.Feed fault)) told text → IsDueOver folder words told text
 refused_over folder words request fault told text of asked is = record {
   files = of.files;
   gives = of.gives;

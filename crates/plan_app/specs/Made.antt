@@ -18,18 +18,18 @@ use Rattle.folder_io.specs.FileReading.{Gives}
 use Rattle.command_answers.specs.Due.{Task, task_by, IsDueOver, files_for}
 use Rattle.plan_app.specs.Run.{asks_folder, Reads}
 use Rattle.command_answers.specs.declared.outcome.Outcome.{Outcome}
-use Rattle.command_answers.specs.declared.outcome.Stop.{Stop}
+use Rattle.command_answers.specs.declared.outcome.Failure.{Failure}
 use Rattle.command_answers.specs.declared.refusal.Refusal.{Refusal}
-use Rattle.command_answers.specs.declared.outcome.Stop.TheVariants as stop
+use Rattle.command_answers.specs.declared.outcome.Failure.TheVariants as failure
 
 -- the answer and the lines are due for these words over files that the folder holds
 abbrev pub IsMade : FolderState → List (List ℕ) → Outcome → Type 0
 IsMade folder words out = IsDueOver folder words out.told out.text
 
 -- why nothing was made
-abbrev pub Stops : Stop → Result Request UsageFault → FolderState → FolderState → Type 0
-Stops stop.ReadFault asked folder later = IsTrue (asks_folder asked) × FailsReading folder later
-Stops stop.NoMemory asked folder later = StopsReading folder later
+abbrev pub Fails : Failure → Result Request UsageFault → FolderState → FolderState → Type 0
+Fails failure.ReadFault asked folder later = IsTrue (asks_folder asked) × FailsReading folder later
+Fails failure.NoMemory asked folder later = StopsReading folder later
 
 -- the feed is that of the files that a request asks about, which have no fault; the folder's are among them as it gave them
 pub record IsFeedFor (folder : FolderState) (request : Request) (feed : FeedRows) : Type 0 where

@@ -9,7 +9,7 @@ use Rattle.folder_io.specs.FolderCalls.{FolderState, WhereTold}
 use Rattle.folder_io.specs.FileReading.{OpensAll}
 use Rattle.folder_io.specs.SinkCalls.{SinkState}
 use Rattle.feed_check.specs.LoadErrors.{FailsReading, StopsReading}
-use Rattle.plan_words.specs.Words.{asked_of}
+use Rattle.plan_words.specs.Words.{read_command}
 use Rattle.command_answers.specs.Due.{Task, due, IsDueOver}
 use Rattle.command_answers.specs.Written.{WritesAll, WritesSome}
 use Rattle.command_answers.specs.declared.status.Status.{Status}
@@ -35,11 +35,11 @@ Reads asked folder later = ReadsIf (asks_folder asked) folder later
 -- each answer and its cause, by the folder and the sink before and after
 pub data Explains (words : List (List ℕ)) (folder later : FolderState) (sink after : SinkState) (answer : Status) : Type 0 where
   -- the lines that are due for this answer were written
-  Whole : (lines : List (List ℕ)) → IsDueOver folder words answer lines → Reads (asked_of words) folder later → WritesAll sink lines after → Explains words folder later sink after answer
+  Whole : (lines : List (List ℕ)) → IsDueOver folder words answer lines → Reads (read_command words) folder later → WritesAll sink lines after → Explains words folder later sink after answer
   -- a write failed: of the lines that are due for some answer a first part was written
-  Part : (told : Status) → (lines : List (List ℕ)) → IsDueOver folder words told lines → Reads (asked_of words) folder later → WritesSome sink lines after → answer ≡ status.WriteFault → Explains words folder later sink after answer
+  Part : (told : Status) → (lines : List (List ℕ)) → IsDueOver folder words told lines → Reads (read_command words) folder later → WritesSome sink lines after → answer ≡ status.WriteFault → Explains words folder later sink after answer
   -- a call of the folder failed, and nothing was written
-  Unread : IsTrue (asks_folder (asked_of words)) → FailsReading folder later → after ≡ sink → answer ≡ status.ReadFault → Explains words folder later sink after answer
+  Unread : IsTrue (asks_folder (read_command words)) → FailsReading folder later → after ≡ sink → answer ≡ status.ReadFault → Explains words folder later sink after answer
   -- memory was wanting, and nothing was written
   Unmade : StopsReading folder later → after ≡ sink → answer ≡ status.NoMemory → Explains words folder later sink after answer
 
@@ -53,7 +53,7 @@ WhereRead false folder later fact = (files : FileName → HeldFile) → fact fil
 -- so it is of each answer that has its cause (`proofs/CauseLaws`: `all_answered`)
 abbrev pub AnswersAll : List (List ℕ) → FolderState → FolderState → SinkState → SinkState → Status → Type 0
 AnswersAll words folder later sink after answer =
-    WhereRead (asks_folder (asked_of words)) folder later (λ files. (task : Task) → due files words ≡ Ok task →
+    WhereRead (asks_folder (read_command words)) folder later (λ files. (task : Task) → due files words ≡ Ok task →
     ¬ (Rose sink.faults after.faults) → (answer ≡ status.Answered) ⊎ (answer ≡ status.NoMemory))
 
 -- these answers stand where nothing was written

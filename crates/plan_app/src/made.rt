@@ -4,19 +4,19 @@ ghost use Rattle.feed_faults.specs.AcceptedFeed.{feed_of};
 ghost use Rattle.feed_faults.specs.FirstFault.{first_fault};
 ghost use Rattle.feed_rows.specs.GeneratedFeed.{generated};
 ghost use Rattle.feed_text.specs.TextErrors.{IsErrorOf};
-ghost use Rattle.plan_app.specs.Made.{IsFeedFor, GivesNone, IsMade, Stops};
+ghost use Rattle.plan_app.specs.Made.{IsFeedFor, GivesNone, IsMade, Fails};
 ghost use Rattle.plan_app.specs.Run.{Reads, asks_folder};
-ghost use Rattle.plan_words.specs.Request.{asked_request, IsUsualGen, IsUsualRequest};
-ghost use Rattle.plan_words.specs.Words.{asked_of};
+ghost use Rattle.plan_words.specs.Request.{command_request, IsUsualGen, IsUsualRequest};
+ghost use Rattle.plan_words.specs.Words.{read_command};
 
 use crate::planning::outcome_of;
-use command_answers::{Outcome, Refusal, Stop, refused};
+use command_answers::{Failure, Outcome, Refusal, refused};
 use feed_check::{LoadError, check, load};
 use feed_maker::gen_files;
 use feed_rows::Feed;
 use feed_text::TextError;
 use folder_io::Folder;
-use plan_words::{Asked, GenWords, WordList, WordsError, asked_of};
+use plan_words::{CommandWords, GenWords, WordList, WordsError, read_command};
 use std::alloc::Global;
 
 // The feed that is made by rule, or its first fault.
@@ -31,38 +31,46 @@ fn made_feed(alloc: Global, words: &GenWords) -> Result<Feed, TextError>
 }
 
 // The feed that a command is about: that of the folder, but for the command that makes its own.
-fn feed_for<F: Folder>(alloc: Global, asked: &Asked, folder: &mut F) -> Result<Feed, LoadError>
-    requires { IsUsualRequest asked.now }
-    ensures ok { OnOk result (Reads (Ok (asked_request asked.now)) (F.state folder.old) (F.state folder.new)) }
-    ensures feed { IfOk result (IsFeedFor (F.state folder.old) (asked_request asked.now)) }
-    ensures err { IfErr result (λ error. GivesNone error (asked_request asked.now) (F.state folder.old) (F.state folder.new)) }
-    ensures untouched { asks_folder (Ok (asked_request asked.now)) ≡ false → folder.new ≡ folder.old }
+fn feed_for<F: Folder>(
+    alloc: Global,
+    command: &CommandWords,
+    folder: &mut F,
+) -> Result<Feed, LoadError>
+    requires { IsUsualRequest command.now }
+    ensures ok { OnOk result (Reads (Ok (command_request command.now)) (F.state folder.old) (F.state folder.new)) }
+    ensures feed { IfOk result (IsFeedFor (F.state folder.old) (command_request command.now)) }
+    ensures err { IfErr result (λ error. GivesNone error (command_request command.now) (F.state folder.old) (F.state folder.new)) }
+    ensures untouched { asks_folder (Ok (command_request command.now)) ≡ false → folder.new ≡ folder.old }
     ensures source { (F.state folder.new).source ≡ (F.state folder.old).source }
 {
-    match asked {
-        Asked::Gen(words) => match made_feed(alloc, words) {
+    match command {
+        CommandWords::Gen(words) => match made_feed(alloc, words) {
             Ok(feed) => Ok(feed),
             Err(TextError::Fault(fault)) => Err(LoadError::Fault(fault)),
             Err(TextError::NoMemory) => Err(LoadError::NoMemory),
         },
-        Asked::Plan(_) | Asked::Price(_) | Asked::Check => load(alloc, folder),
+        CommandWords::Plan(_) | CommandWords::Price(_) | CommandWords::Check => load(alloc, folder),
     }
 }
 
 // What a request answers over a folder, whichever words ask for it.
-fn made_for<F: Folder>(alloc: Global, asked: &Asked, folder: &mut F) -> Result<Outcome, Stop>
-    requires { IsUsualRequest asked.now }
-    ensures made { IfOk result (λ outcome. (words : List (List ℕ)) → Ok (asked_request asked.now) ≡ asked_of words → IsMade (F.state folder.old) words outcome) }
-    ensures ok { OnOk result (Reads (Ok (asked_request asked.now)) (F.state folder.old) (F.state folder.new)) }
-    ensures err { IfErr result (λ stop. Stops stop (Ok (asked_request asked.now)) (F.state folder.old) (F.state folder.new)) }
-    ensures untouched { asks_folder (Ok (asked_request asked.now)) ≡ false → folder.new ≡ folder.old }
+fn made_for<F: Folder>(
+    alloc: Global,
+    command: &CommandWords,
+    folder: &mut F,
+) -> Result<Outcome, Failure>
+    requires { IsUsualRequest command.now }
+    ensures made { IfOk result (λ outcome. (words : List (List ℕ)) → Ok (command_request command.now) ≡ read_command words → IsMade (F.state folder.old) words outcome) }
+    ensures ok { OnOk result (Reads (Ok (command_request command.now)) (F.state folder.old) (F.state folder.new)) }
+    ensures err { IfErr result (λ failure. Fails failure (Ok (command_request command.now)) (F.state folder.old) (F.state folder.new)) }
+    ensures untouched { asks_folder (Ok (command_request command.now)) ≡ false → folder.new ≡ folder.old }
     ensures source { (F.state folder.new).source ≡ (F.state folder.old).source }
 {
-    match feed_for(alloc, asked, folder) {
-        Ok(feed) => Ok(outcome_of(alloc, &feed, asked)?),
-        Err(LoadError::ReadFault) => Err(Stop::ReadFault),
+    match feed_for(alloc, command, folder) {
+        Ok(feed) => Ok(outcome_of(alloc, &feed, command)?),
+        Err(LoadError::ReadFault) => Err(Failure::ReadFault),
         Err(LoadError::Fault(fault)) => Ok(refused(alloc, Refusal::Feed(fault))?),
-        Err(LoadError::NoMemory) => Err(Stop::NoMemory),
+        Err(LoadError::NoMemory) => Err(Failure::NoMemory),
     }
 }
 
@@ -75,16 +83,16 @@ pub(crate) fn made<F: Folder>(
     alloc: Global,
     words: &WordList,
     folder: &mut F,
-) -> Result<Outcome, Stop>
+) -> Result<Outcome, Failure>
     ensures made { IfOk result (IsMade (F.state folder.old) words.now) }
-    ensures ok { OnOk result (Reads (asked_of words.now) (F.state folder.old) (F.state folder.new)) }
-    ensures err { IfErr result (λ stop. Stops stop (asked_of words.now) (F.state folder.old) (F.state folder.new)) }
-    ensures untouched { asks_folder (asked_of words.now) ≡ false → folder.new ≡ folder.old }
+    ensures ok { OnOk result (Reads (read_command words.now) (F.state folder.old) (F.state folder.new)) }
+    ensures err { IfErr result (λ failure. Fails failure (read_command words.now) (F.state folder.old) (F.state folder.new)) }
+    ensures untouched { asks_folder (read_command words.now) ≡ false → folder.new ≡ folder.old }
     ensures source { (F.state folder.new).source ≡ (F.state folder.old).source }
 {
-    match asked_of(words) {
-        Ok(asked) => made_for(alloc, &asked, folder),
+    match read_command(words) {
+        Ok(command) => made_for(alloc, &command, folder),
         Err(WordsError::Usage(fault)) => Ok(refused(alloc, Refusal::Usage(fault))?),
-        Err(WordsError::NoMemory) => Err(Stop::NoMemory),
+        Err(WordsError::NoMemory) => Err(Failure::NoMemory),
     }
 }

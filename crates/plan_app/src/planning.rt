@@ -7,7 +7,7 @@ ghost use Rattle.command_answers.specs.Due.{Task, task_by, task_of, AreGenLines,
 ghost use Rattle.plan_rides.specs.InTime.{IsUsualQuery};
 ghost use Rattle.command_answers.specs.Outcomes.{IsOutcome};
 ghost use Rattle.plan_app.specs.Made.{plan_task, planned};
-ghost use Rattle.plan_words.specs.Request.{request_of, asked_request, IsUsualPlan, IsUsualGen, IsUsualRequest};
+ghost use Rattle.plan_words.specs.Request.{request_of, command_request, IsUsualPlan, IsUsualGen, IsUsualRequest};
 
 use command_answers::{
     Outcome, Refusal, answered, check_outcome, price_outcome, query_of, refused, stats_line_of,
@@ -16,7 +16,7 @@ use feed_maker::stop_id;
 use feed_rows::{Feed, Query, USUAL_WINDOW};
 use feed_timetable::Timetable;
 use plan_rounds::{round_entries, rounds};
-use plan_words::{Asked, GenWords, PlanWords};
+use plan_words::{CommandWords, GenWords, PlanWords};
 use std::alloc::{AllocError, Global};
 use ticket_explain::{Text, gen_lines_of, text_of};
 use transit_base::{Day, Moment};
@@ -127,15 +127,19 @@ fn gen_outcome(
 }
 
 // What a command answers over the timetable of its feed.
-fn outcome_over(alloc: Global, timetable: &Timetable, asked: &Asked) -> Result<Outcome, AllocError>
-    requires { IsUsualRequest asked.now }
-    ensures { IfOk result (IsOutcome (task_of timetable.now (asked_request asked.now))) }
+fn outcome_over(
+    alloc: Global,
+    timetable: &Timetable,
+    command: &CommandWords,
+) -> Result<Outcome, AllocError>
+    requires { IsUsualRequest command.now }
+    ensures { IfOk result (IsOutcome (task_of timetable.now (command_request command.now))) }
 {
-    match asked {
-        Asked::Check => check_outcome(alloc, timetable.feed()),
-        Asked::Plan(plan) => plan_outcome(alloc, timetable, plan, false),
-        Asked::Price(words) => price_outcome(alloc, timetable, words),
-        Asked::Gen(words) => gen_outcome(alloc, timetable, words),
+    match command {
+        CommandWords::Check => check_outcome(alloc, timetable.feed()),
+        CommandWords::Plan(plan) => plan_outcome(alloc, timetable, plan, false),
+        CommandWords::Price(words) => price_outcome(alloc, timetable, words),
+        CommandWords::Gen(words) => gen_outcome(alloc, timetable, words),
     }
 }
 
@@ -143,15 +147,19 @@ fn outcome_over(alloc: Global, timetable: &Timetable, asked: &Asked) -> Result<O
 ///
 /// # Errors
 /// Want of memory.
-pub(crate) fn outcome_of(alloc: Global, feed: &Feed, asked: &Asked) -> Result<Outcome, AllocError>
-    requires { IsUsualRequest asked.now }
-    ensures { IfOk result (IsOutcome (task_of feed.now (asked_request asked.now))) }
+pub(crate) fn outcome_of(
+    alloc: Global,
+    feed: &Feed,
+    command: &CommandWords,
+) -> Result<Outcome, AllocError>
+    requires { IsUsualRequest command.now }
+    ensures { IfOk result (IsOutcome (task_of feed.now (command_request command.now))) }
 {
-    if let Asked::Check = asked {
+    if let CommandWords::Check = command {
         return check_outcome(alloc, feed);
     }
     match Timetable::build(alloc, feed) {
-        Ok(timetable) => outcome_over(alloc, &timetable, asked),
+        Ok(timetable) => outcome_over(alloc, &timetable, command),
         Err(AllocError) => Err(AllocError),
     }
 }

@@ -1,10 +1,10 @@
 //! The top call.
 ghost use Rattle.std.specs.Prelude.{◌≡◌, true, false};
-ghost use Rattle.plan_words.specs.Words.{asked_of};
+ghost use Rattle.plan_words.specs.Words.{read_command};
 ghost use Rattle.plan_app.specs.Run.{AnswersAll, Explains, asks_folder, writes_nothing};
 
 use crate::made::made;
-use command_answers::{Status, Stop, write_text};
+use command_answers::{Failure, Status, write_text};
 use folder_io::{Folder, Sink, Wrote};
 use plan_words::WordList;
 use std::alloc::Global;
@@ -29,14 +29,14 @@ pub fn run<F: Folder, S: Sink>(
 ) -> Status
     ensures causes { Explains words.now (F.state folder.old) (F.state folder.new) (S.state sink.old) (S.state sink.new) result }
     ensures unwritten { writes_nothing result ≡ true → sink.new ≡ sink.old }
-    ensures untouched { asks_folder (asked_of words.now) ≡ false → folder.new ≡ folder.old }
+    ensures untouched { asks_folder (read_command words.now) ≡ false → folder.new ≡ folder.old }
     ensures answers_all { AnswersAll words.now (F.state folder.old) (F.state folder.new) (S.state sink.old) (S.state sink.new) result }
     ensures source { (F.state folder.new).source ≡ (F.state folder.old).source }
 {
     let outcome = match made(alloc, words, folder) {
         Ok(outcome) => outcome,
-        Err(Stop::ReadFault) => return Status::ReadFault,
-        Err(Stop::NoMemory) => return Status::NoMemory,
+        Err(Failure::ReadFault) => return Status::ReadFault,
+        Err(Failure::NoMemory) => return Status::NoMemory,
     };
     match write_text(sink, &outcome.text) {
         Wrote::All => outcome.told,

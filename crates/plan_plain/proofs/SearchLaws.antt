@@ -1,19 +1,18 @@
 -- How a search goes on, and what it has when it is through.
 use Rattle.std.proofs.Common.{◌≡◌, refl, sym, ◌∙◌, ap, subst, ℕ, ◌+◌, ◌-◌, ◌<◌, ◌≤◌, ◌⊎◌, inl, inr, ⊎_elim, true, List, [], ◌∷◌, ◌++◌, length, get_or, append_assoc, arith, ℤ, pos, ◌+ℤ◌, ◌≤ℤ◌}
-use Rattle.std.specs.Prelude.{Option, Some, None, slice_get, option_map, All, Contains, IsTrue, int_le, ◌==◌}
+use Rattle.std.specs.Prelude.{Option, Some, None, slice_get, option_map, All, Contains, IsTrue, int_le}
 use Rattle.std.proofs.lemmas.Int.{ints}
 use Rattle.std.proofs.lemmas.Bool.{cases_lt}
 use Rattle.std.proofs.lemmas.Bool.Decides.{nat_tests}
-use Rattle.std.proofs.lemmas.Option.{same_Some, none-some, slice_get_within, slice_get-get_or, cond_some}
-use Rattle.std.proofs.lemmas.List.Folds.{Any-from_list_any, list_any-from_Any}
+use Rattle.std.proofs.lemmas.Option.{same_Some, none-some, slice_get-get_or, cond_some}
 use Rattle.std.proofs.lemmas.List.{get_or_default, append-nil}
 use Rattle.std.proofs.lemmas.List.Elements.{All-weaker, All-nil, All-contains}
 use Rattle.transit_base.specs.Limits.{most_time}
+use Rattle.feed_rows.specs.declared.journeys.Buyer.{Buyer}
 use Rattle.feed_rows.specs.declared.fares.Triple.{Triple}
 use Rattle.feed_rows.specs.Legs.{leg_facts, legs_of}
 use Rattle.feed_rows.specs.PriceTexts.{IsLeastPrice, IsUncovered}
 use Rattle.transit_base.specs.declared.moments.Moment.{Moment}
-use Rattle.transit_base.specs.declared.numbers.RiderId.{RiderId}
 use Rattle.transit_base.specs.declared.numbers.StopId.{StopId}
 use Rattle.feed_rows.specs.declared.journeys.Query.{Query}
 use Rattle.feed_rows.specs.declared.journeys.LegFacts.{LegFacts}
@@ -26,7 +25,7 @@ use Rattle.feed_rows.specs.Journeys.{stands_for}
 use Rattle.feed_rows.specs.JourneyStands.{Stand, first_stand, stand_at_end, next_stand, way_to, way_out, end_arrival}
 use Rattle.feed_rows.specs.ParetoTriples.{at_most, is_before}
 use Rattle.feed_rows.specs.StopLinks.{stop_set}
-use Rattle.plain_laws.specs.Plain.{after, when}
+use Rattle.plain_laws.specs.Plain.{after}
 use Rattle.feed_laws.proofs.ExactLaws.{exact_of_front, covers_offers}
 use Rattle.fare_price.specs.declared.Priced.{Priced}
 use Rattle.fare_automaton.specs.Terms.{terms}
@@ -37,6 +36,7 @@ use Rattle.feed_laws.proofs.LeastPriceLaws.{least_price_of_rides, uncovered_ride
 use Rattle.feed_laws.proofs.ParetoLaws.{at_most-trans}
 use Rattle.feed_laws.proofs.RideLaws.{ride_facts_timed}
 use Rattle.feed_laws.proofs.SoundTrips.{sound_trip}
+use Rattle.plain_laws.proofs.AddsLaws.{adds_more, adds_none, adds_same}
 use Rattle.plain_laws.proofs.Laws.{chain_gives, after-push, collect_below_tells, filled_and-true}
 use Rattle.pareto_front.specs.Fronts.{CoversAll, IsFront}
 use Rattle.plan_rides.specs.declared.caught.CaughtRide.{CaughtRide}
@@ -45,7 +45,7 @@ use Rattle.plan_plain.specs.Paths.{Taken, no_ride, with_ride}
 use Rattle.plan_rides.specs.Asked.{arrival_in_time}
 use Rattle.plan_rides.specs.Boarding.{IsAmong, MayRide}
 use Rattle.plan_rides.proofs.ArrivalLaws.{arrives_in_time}
-use Rattle.plan_rides.proofs.MarkLaws.{stop_id, stands_for_member, member_of_stands_for, among_more}
+use Rattle.plan_rides.proofs.MarkLaws.{stands_for_member, member_of_stands_for, among_more}
 use Rattle.plan_plain.specs.declared.search.End.{End}
 use Rattle.plan_plain.specs.Searches.{covers_entry, AddsEnd, EndsBy, HasRides, IsBest, IsCheapest, IsEarliest, IsEarliestEnd, IsEndIn, GoesOn, Gains, StartsAt, IsSearched, StartsAmong, CoversWays}
 
@@ -130,28 +130,11 @@ ends_in_time feed query stand last arrival e until = step (way_out feed query st
     step None none is = let bad = rw none at is in absurd (none-some arrival bad)
     step (Some s) some is = before stand.at arrival (deadline query) s (same_Some _ _ (rw some at is)) until
 
--- one part after another
-pub gains_more : (feed : FeedRows) (query : Query) (Part More Whole : Entry → Type 0) (old mid new : List Entry) → Gains feed query Part old mid → Gains feed query More mid new →
-    ((e : Entry) → Whole e → Part e ⊎ More e) → Gains feed query Whole old new
-gains_more feed query Part More Whole old mid new a b split = record {
-  still = record { still = λ t h. b.still.still t (a.still.still t h) };
-  right = λ h. b.right (a.right h);
-  all = λ e whole. ⊎_elim (λ p. b.still.still e (a.all e p)) (λ m. b.all e m) (split e whole);
-}
-
--- the same part, said otherwise
-pub gains_same : (feed : FeedRows) (query : Query) (Part Whole : Entry → Type 0) (old new : List Entry) → Gains feed query Part old new → ((e : Entry) → Whole e → Part e) → Gains feed query Whole old new
-gains_same feed query Part Whole old new a part = record { still = a.still; right = a.right; all = λ e whole. a.all e (part e whole) }
-
--- a part without entries
-pub gains_none : (feed : FeedRows) (query : Query) (Whole : Entry → Type 0) (entries : List Entry) → ((e : Entry) → Whole e → ⊥) → Gains feed query Whole entries entries
-gains_none feed query Whole entries never = record { still = record { still = λ t h. h }; right = λ h. h; all = λ e whole. absurd (never e whole) }
-
 -- an entry that is at most each of a part, offered
 pub gains_offer : (feed : FeedRows) (query : Query) (Part : Entry → Type 0) (item : Entry) (old new : List Entry) → IsEntry feed query item → ((e : Entry) → Part e → at_most item.triple e.triple ≡ true) →
     covers_entry new item → CoversAll (λ (a : Entry) (b : Entry). at_most a.triple b.triple) old new → All (λ x. Contains old x ⊎ (x ≡ item)) new → Gains feed query Part old new
 gains_offer feed query Part item old new is least covered still from = record {
-  still = still;
+  still = still.still;
   right = λ h. All-weaker (λ x. Contains old x ⊎ (x ≡ item)) (IsEntry feed query) (λ x. ⊎_elim (λ in_old. All-contains (IsEntry feed query) old x h in_old) (λ same. subst (IsEntry feed query) (sym same) is)) new from;
   all = λ e part. covers-upward new item e covered (least e part);
 }
@@ -161,8 +144,8 @@ pub keeps_end : (feed : FeedRows) (query : Query) (stand : Stand) (last : StopId
     arrival_in_time feed query stand last ≡ None → AddsEnd feed query stand last old old
 keeps_end feed query stand last old none = record {
   still = λ at h. h;
-  takes = λ at is. absurd (none-some at (sym none ∙ is));
-  from = inl refl;
+  all = λ at is. absurd (none-some at (sym none ∙ is));
+  right = inl refl;
 }
 
 -- so it does where it is no later
@@ -171,8 +154,8 @@ pub keeps_earlier : (feed : FeedRows) (query : Query) (stand : Stand) (last : St
     AddsEnd feed query stand last (Some held) (Some held)
 keeps_earlier feed query stand last held arrival is sooner = record {
   still = λ at h. h;
-  takes = λ at e. subst (λ z. held.arrival.0 ≤ℤ z) (same_Some _ _ (sym is ∙ e)) sooner;
-  from = inl refl;
+  all = λ at e. subst (λ z. held.arrival.0 ≤ℤ z) (same_Some _ _ (sym is ∙ e)) sooner;
+  right = inl refl;
 }
 
 -- where there was no end, or a later one, the end at this stop is taken
@@ -181,8 +164,8 @@ pub takes_end : (feed : FeedRows) (query : Query) (stand : Stand) (end : End) (o
     ((at : ℤ) → EndsBy at old → end.arrival.0 ≤ℤ at) → AddsEnd feed query stand end.last old (Some end)
 takes_end feed query stand end old is sooner = record {
   still = sooner;
-  takes = λ at e. same_moment end.arrival.0 at (same_Some _ _ (sym is ∙ e));
-  from = inr (refl, is);
+  all = λ at e. same_moment end.arrival.0 at (same_Some _ _ (sym is ∙ e));
+  right = inr (refl, is);
 }
   where
     same_moment : (a b : ℤ) → a ≡ b → a ≤ℤ b
@@ -201,7 +184,7 @@ pub earliest_more : (feed : FeedRows) (query : Query) (stand : Stand) (lasts : L
 earliest_more feed query stand lasts k d old new lt before adds = record {
   least = λ last at among is. ⊎_elim
       (λ lower. adds.still at (before.least last at lower is))
-      (λ same. adds.takes at (subst (λ (s : StopId). arrival_in_time feed query stand s ≡ Some at) same is))
+      (λ same. adds.all at (subst (λ (s : StopId). arrival_in_time feed query stand s ≡ Some at) same is))
       (among_more lasts k d last lt among);
   from = ⊎_elim
       (λ (same : new ≡ old). ⊎_elim
@@ -214,7 +197,7 @@ earliest_more feed query stand lasts k d old new lt before adds = record {
       (λ (is : IsEndIn feed query stand (λ (stop : StopId). stop ≡ get_or lasts k d) new).
       inr (end_in_more feed query stand (λ (stop : StopId). stop ≡ get_or lasts k d) (IsAmong lasts (k + 1)) new
       (λ last at. (k, omega arith, slice_get-get_or lasts k d lt ∙ ap Some (sym at))) is))
-      adds.from;
+      adds.right;
 }
 
 -- all last stops
@@ -239,14 +222,14 @@ earliest_end feed query stand lasts k end same all before = record {
 pub gains_first : (feed : FeedRows) (query : Query) (firsts : List StopId) (k : ℕ) (d : StopId) (old mid new : List Entry) → k < length firsts →
     Gains feed query (StartsAmong feed query firsts k) old mid → Gains feed query (StartsAt feed query (get_or firsts k d)) mid new → Gains feed query (StartsAmong feed query firsts (k + 1)) old new
 gains_first feed query firsts k d old mid new lt before here =
-    gains_more feed query (StartsAmong feed query firsts k) (StartsAt feed query (get_or firsts k d)) (StartsAmong feed query firsts (k + 1)) old mid new before here
+    adds_more (λ a b h. b (a h)) before here
     (λ e starts. ⊎_elim (λ lower. inl (record { right = starts.right; among = lower })) (λ at. inr (record { right = starts.right; starts = at })) (among_more firsts k d e.journey.first lt starts.among))
 
 -- the entries of a first stop go on from there
 pub gains_start : (feed : FeedRows) (query : Query) (first : StopId) (old new : List Entry) → IsSoundFeed feed →
     Gains feed query (GoesOn feed query first [] (first_stand query first) query.rides) old new → Gains feed query (StartsAt feed query first) old new
 gains_start feed query first old new sound gains =
-    gains_same feed query (GoesOn feed query first [] (first_stand query first) query.rides) (StartsAt feed query first) old new gains
+    adds_same gains
     (λ e starts.
     let course = after_of_journey feed query e.journey e.triple.arrival.0 starts.right.journey in
     let until = ends_in_time feed query course.stand e.journey.last e.triple.arrival.0 course.arrives starts.right.journey.in_time in
@@ -263,7 +246,7 @@ gains_start feed query first old new sound gains =
 pub gains_entries : (feed : FeedRows) (query : Query) (firsts : List StopId) (k : ℕ) (old new : List Entry) → firsts ≡ stop_set feed query.from → length firsts ≤ k →
     Gains feed query (StartsAmong feed query firsts k) old new → Gains feed query (IsEntry feed query) old new
 gains_entries feed query firsts k old new same all gains =
-    gains_same feed query (StartsAmong feed query firsts k) (IsEntry feed query) old new gains
+    adds_same gains
     (λ e right.
     let member = member_of_stands_for feed query.from e.journey.first right.journey.starts in
     let long = ap length same in
@@ -311,23 +294,23 @@ none_late feed query first stand taken searched none e has =
 
 -- the price of an entry's rides
 entry_price : (feed : FeedRows) (query : Query) (first : StopId) (rides : List Ride) (e : Entry) →
-    HasRides feed query first rides e → rides_price feed rides e.choice query.rider ≡ Some e.triple.price.0
+    HasRides feed query first rides e → rides_price feed rides e.choice query.buyer ≡ Some e.triple.price.0
 entry_price feed query first rides e has =
-    subst (λ rs. rides_price feed rs e.choice query.rider ≡ Some e.triple.price.0) has.goes has.right.price
+    subst (λ rs. rides_price feed rs e.choice query.buyer ≡ Some e.triple.price.0) has.goes has.right.price
 
 -- where no choice pays the rides, no entry has them
 pub none_uncovered : (feed : FeedRows) (query : Query) (first : StopId) (rides : List Ride) →
-    IsUncovered feed rides query.rider → IsBest feed query first rides None
+    IsUncovered feed rides query.buyer → IsBest feed query first rides None
 none_uncovered feed query first rides uncovered e has =
     none-some e.triple.price.0 (sym (uncovered e.choice) ∙ entry_price feed query first rides e has)
 
 -- what is of least price for the legs of rides is so for the rides
-pub cheapest_of_legs : (feed : FeedRows) (rides : List Ride) (legs : List LegFacts) (rider : Option RiderId)
-    (priced : Option Priced) → legs_of feed rides ≡ Some legs → IsLeastOrNone feed legs rider priced →
-    IsCheapest feed rides rider priced
-cheapest_of_legs feed rides legs rider None are uncovered = uncovered_rides feed rides legs rider are uncovered
-cheapest_of_legs feed rides legs rider (Some priced) are least =
-    least_price_of_rides feed rides legs rider are priced.choice priced.sum.0 least
+pub cheapest_of_legs : (feed : FeedRows) (rides : List Ride) (legs : List LegFacts) (buyer : Buyer)
+    (priced : Option Priced) → legs_of feed rides ≡ Some legs → IsLeastOrNone feed legs buyer priced →
+    IsCheapest feed rides buyer priced
+cheapest_of_legs feed rides legs buyer None are uncovered = uncovered_rides feed rides legs buyer are uncovered
+cheapest_of_legs feed rides legs buyer (Some priced) are least =
+    least_price_of_rides feed rides legs buyer are priced.choice priced.sum.0 least
 
 -- there are as many legs as rides
 pub count_of_legs : (feed : FeedRows) (rides : List Ride) (legs : List LegFacts) → legs_of feed rides ≡ Some legs →
@@ -340,7 +323,7 @@ pub best_is : (feed : FeedRows) (query : Query) (stand : Stand) (taken : Taken) 
     IsSearched feed query entry.journey.first stand taken → IsEarliestEnd feed query stand (Some end) →
     length taken.rides ≤ query.rides → entry.journey.last ≡ end.last → entry.triple.arrival ≡ end.arrival →
     entry.triple.rides ≡ length taken.rides → entry.journey.rides ≡ taken.rides →
-    IsLeastPrice feed taken.rides query.rider entry.choice entry.triple.price.0 →
+    IsLeastPrice feed taken.rides query.buyer entry.choice entry.triple.price.0 →
     IsBest feed query entry.journey.first taken.rides (Some entry)
 best_is feed query stand taken entry end searched earliest few last_is arrival_is count rides price =
     let first = entry.journey.first in
@@ -356,7 +339,7 @@ best_is feed query stand taken entry end searched earliest few last_is arrival_i
       record {
         journey = journey_of_after feed query entry.journey entry.triple.arrival.0 stand searched.starts ends (omega arith) goes timed.0 timed.1;
         rides = count ∙ sym long;
-        price = subst (λ rs. rides_price feed rs entry.choice query.rider ≡ Some entry.triple.price.0) (sym rides) price.paid;
+        price = subst (λ rs. rides_price feed rs entry.choice query.buyer ≡ Some entry.triple.price.0) (sym rides) price.paid;
       },
       λ e has.
           let reached = entry_arrival feed query first stand taken e searched has in
@@ -382,7 +365,7 @@ pub gains_way : (feed : FeedRows) (query : Query) (first : StopId) (path : List 
     Gains feed query (GoesOn feed query first (path ++ (get_or ways n d).ride ∷ []) (stand_at_end (get_or ways n d).facts) left) old new →
     CoversWays feed query first path ways n left old → CoversWays feed query first path ways (n + 1) left new
 gains_way feed query first path ways n left d old new lt gains covered k d' e below goes =
-    ⊎_elim (λ lower. gains.still.still e (covered k d' e lower goes))
+    ⊎_elim (λ lower. gains.still e (covered k d' e lower goes))
     (λ upper.
     let same : k ≡ n = omega arith in
     let way : get_or ways k d' ≡ get_or ways n d = ap (λ i. get_or ways i d') same ∙ get_or_default ways n d' d lt in
@@ -406,7 +389,7 @@ gains_explored feed query first path longer leg before ways n left caught old ne
 
 -- what was gained before and is kept
 pub gains_then : (feed : FeedRows) (query : Query) (Part More : Entry → Type 0) (old mid new : List Entry) → Gains feed query Part old mid → Gains feed query More mid new → Gains feed query Part old new
-gains_then feed query Part More old mid new a b = gains_more feed query Part More Part old mid new a b (λ e p. inl p)
+gains_then feed query Part More old mid new a b = adds_more (λ one two h. two (one h)) a b (λ e p. inl p)
 
 -- all ways, and to end here
 pub gains_all : (feed : FeedRows) (query : Query) (first : StopId) (path : List Ride) (stand : Stand) (ways : List CaughtRide) (n left : ℕ) (old new : List Entry) →
@@ -442,7 +425,7 @@ gains_all feed query first path stand ways n left old new has right all some her
 pub gains_end : (feed : FeedRows) (query : Query) (first : StopId) (path : List Ride) (stand : Stand) (left : ℕ) (old new : List Entry) → left ≡ 0 →
     Gains feed query (HasRides feed query first path) old new → Gains feed query (GoesOn feed query first path stand left) old new
 gains_end feed query first path stand left old new none here =
-    gains_same feed query (HasRides feed query first path) (GoesOn feed query first path stand left) old new here
+    adds_same here
     (λ e goes. record { right = goes.has.right; starts = goes.has.starts; goes = goes.has.goes ∙ no_rest goes.rest (subst (λ n. length goes.rest ≤ n) none goes.few) })
   where
     no_rest : (rest : List Ride) → length rest ≤ 0 → path ++ rest ≡ path
@@ -453,7 +436,7 @@ gains_end feed query first path stand left old new none here =
 pub searched_first : (feed : FeedRows) (query : Query) (first : StopId) (stand : Stand) →
     stand ≡ first_stand query first →
     IsWithinWindow query stand.at → IsTrue (stands_for feed query.from first) →
-    IsSearched feed query first stand (no_ride (terms feed query.rider))
+    IsSearched feed query first stand (no_ride (terms feed query.buyer))
 unfolding legs_of
 searched_first feed query first stand is within starts =
     record { within = within; starts = starts; goes = ap Some (sym is); legs = refl; terms = refl }
@@ -480,7 +463,7 @@ pub gains_dead : (feed : FeedRows) (query : Query) (first : StopId) (stand : Sta
     Gains feed query (GoesOn feed query first taken.rides stand left) entries entries
 gains_dead feed query first stand taken left entries searched none late =
     gains_end feed query first taken.rides stand left entries entries none
-    (gains_none feed query (HasRides feed query first taken.rides) entries
+    (adds_none (λ h. h)
     (none_late feed query first stand taken searched late))
 
 -- one may ride where rides are left

@@ -4,7 +4,7 @@ use Rattle.feed_rows.specs.declared.journeys.LegFacts.{LegFacts}
 use Rattle.feed_rows.specs.declared.journeys.Ride.{Ride}
 use Rattle.fare_automaton.specs.Terms.{FareTerms}
 
--- rides in order, and what fare rules look at in each; and by which rows and for which rider they are priced
+-- rides in order, and what fare rules look at in each; and by which rows and for which buyer they are priced
 pub record Taken : Type 0 where
   pub terms : FareTerms
   pub rides : List Ride

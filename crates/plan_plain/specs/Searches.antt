@@ -1,6 +1,6 @@
 -- The entries of a query that go on from where a search stands, and lists that cover them.
-use Rattle.std.specs.Prelude.{ℤ, ◌≤ℤ◌, IsTrue, ◌≡◌, ◌⊎◌, ℕ, ◌<◌, ◌≤◌, ◌++◌, [], ◌∷◌, slice_get, slice_index_or, true, List, length, All, Option, Some, None}
-use Rattle.transit_base.specs.declared.numbers.RiderId.{RiderId}
+use Rattle.std.specs.Prelude.{ℤ, ◌≤ℤ◌, IsTrue, ◌≡◌, ◌⊎◌, ℕ, ◌<◌, ◌≤◌, ◌++◌, [], ◌∷◌, slice_index_or, true, List, length, Option, Some, None}
+use Rattle.feed_rows.specs.declared.journeys.Buyer.{Buyer}
 use Rattle.transit_base.specs.declared.numbers.StopId.{StopId}
 use Rattle.feed_rows.specs.declared.journeys.Query.{Query}
 use Rattle.feed_rows.specs.declared.journeys.Ride.{Ride}
@@ -11,11 +11,12 @@ use Rattle.feed_rows.specs.JourneyStands.{Stand, first_stand, stand_at_end}
 use Rattle.feed_rows.specs.Journeys.{stands_for}
 use Rattle.feed_rows.specs.Legs.{legs_of}
 use Rattle.feed_rows.specs.PriceTexts.{IsLeastPrice, IsUncovered}
+use Rattle.plain_laws.specs.Adds.{Adds, AllStay}
 use Rattle.plain_laws.specs.Plain.{after}
 use Rattle.feed_rows.specs.ParetoTriples.{at_most}
 use Rattle.fare_price.specs.declared.Priced.{Priced}
 use Rattle.fare_automaton.specs.Terms.{terms}
-use Rattle.pareto_front.specs.Fronts.{has_as_good, CoversAll}
+use Rattle.pareto_front.specs.Fronts.{has_as_good}
 use Rattle.plan_rides.specs.Asked.{arrival_in_time}
 use Rattle.plan_rides.specs.Boarding.{IsAmong}
 use Rattle.plan_rides.specs.InTime.{next_in_time, IsWithinWindow}
@@ -40,10 +41,10 @@ IsBest feed query first rides (Some best) =
     IsEntry feed query best × ((entry : Entry) → HasRides feed query first rides entry →
     at_most best.triple entry.triple ≡ true)
 
--- the choice and its sum are of least price, or no choice pays the rides for the rider
-abbrev pub IsCheapest : FeedRows → List Ride → Option RiderId → Option Priced → Type 0
-IsCheapest feed rides rider None = IsUncovered feed rides rider
-IsCheapest feed rides rider (Some priced) = IsLeastPrice feed rides rider priced.choice priced.sum.0
+-- the choice and its sum are of least price, or no choice pays the rides for the buyer
+abbrev pub IsCheapest : FeedRows → List Ride → Buyer → Option Priced → Type 0
+IsCheapest feed rides buyer None = IsUncovered feed rides buyer
+IsCheapest feed rides buyer (Some priced) = IsLeastPrice feed rides buyer priced.choice priced.sum.0
 
 -- the entry goes on from here, where one stands after the rides of the path, with at most so many more
 pub record GoesOn (feed : FeedRows) (query : Query) (first : StopId) (path : List Ride) (stand : Stand) (left : ℕ) (entry : Entry) : Type 0 where
@@ -53,11 +54,9 @@ pub record GoesOn (feed : FeedRows) (query : Query) (first : StopId) (path : Lis
   pub goes : after (next_in_time feed query) stand rest ≡ Some end
   pub has : HasRides feed query first (path ++ rest) entry
 
--- the new list has_as_good what the old one covered, and each entry of this part; its members stay entries of the query
-pub record Gains (feed : FeedRows) (query : Query) (Part : Entry → Type 0) (old new : List Entry) : Type 0 where
-  pub still : CoversAll (λ (a : Entry) (b : Entry). at_most a.triple b.triple) old new
-  pub right : All (IsEntry feed query) old → All (IsEntry feed query) new
-  pub all : (entry : Entry) → Part entry → covers_entry new entry
+-- the new list covers what the old one covered, and each entry of this part; its members stay entries of the query
+abbrev pub Gains : FeedRows → Query → (Entry → Type 0) → List Entry → List Entry → Type 0
+Gains feed query = Adds (AllStay (IsEntry feed query)) covers_entry
 
 -- the entry is one of the query, from this first stop
 pub record StartsAt (feed : FeedRows) (query : Query) (first : StopId) (entry : Entry) : Type 0 where
@@ -65,13 +64,13 @@ pub record StartsAt (feed : FeedRows) (query : Query) (first : StopId) (entry : 
   pub starts : entry.journey.first ≡ first
 
 -- the rides are caught in time one after another from the first stop, lead here within the window, and these are their
--- legs, which are priced by the rows of the feed for the query's rider
+-- legs, which are priced by the rows of the feed for the query's buyer
 pub record IsSearched (feed : FeedRows) (query : Query) (first : StopId) (stand : Stand) (taken : Taken) : Type 0 where
   pub within : IsWithinWindow query stand.at
   pub starts : IsTrue (stands_for feed query.from first)
   pub goes : after (next_in_time feed query) (first_stand query first) taken.rides ≡ Some stand
   pub legs : legs_of feed taken.rides ≡ Some taken.legs
-  pub terms : taken.terms ≡ terms feed query.rider
+  pub terms : taken.terms ≡ terms feed query.buyer
 
 -- there is an end, at this moment or before
 abbrev pub EndsBy : ℤ → Option End → Type 0
@@ -85,11 +84,10 @@ IsEndIn feed query stand Part (Some end) = Part end.last ×
     (arrival_in_time feed query stand end.last ≡ Some end.arrival.0)
 
 -- the new end is the old one or that at this stop, and no later than either
-pub record AddsEnd (feed : FeedRows) (query : Query) (stand : Stand) (last : StopId)
-    (old new : Option End) : Type 0 where
-  pub still : (at : ℤ) → EndsBy at old → EndsBy at new
-  pub takes : (at : ℤ) → arrival_in_time feed query stand last ≡ Some at → EndsBy at new
-  pub from : (new ≡ old) ⊎ IsEndIn feed query stand (λ (stop : StopId). stop ≡ last) new
+abbrev pub AddsEnd : FeedRows → Query → Stand → StopId → Option End → Option End → Type 0
+AddsEnd feed query stand last =
+    Adds (λ (old new : Option End). (new ≡ old) ⊎ IsEndIn feed query stand (λ (stop : StopId). stop ≡ last) new)
+    (λ (end : Option End) (at : ℤ). EndsBy at end) (λ (at : ℤ). arrival_in_time feed query stand last ≡ Some at)
 
 -- the end is at a stop of this part, and no later than the arrival at any of them; none where one arrives at none
 pub record IsEarliest (feed : FeedRows) (query : Query) (stand : Stand) (Part : StopId → Type 0)

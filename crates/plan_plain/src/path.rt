@@ -51,7 +51,7 @@ impl<'r, 'f> Path<'r, 'f> {
     /// Want of memory.
     pub fn price(&self, alloc: Global) -> Result<Option<Priced>, AllocError>
         requires { length self.now.legs ≤ 12 }
-        ensures { IfOk result (IsLeastOrNone self.now.terms.feed self.now.legs self.now.terms.rider) }
+        ensures { IfOk result (IsLeastOrNone self.now.terms.feed self.now.legs self.now.terms.buyer) }
     {
         self.legs.price(alloc)
     }

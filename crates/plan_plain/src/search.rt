@@ -8,6 +8,7 @@ ghost use Rattle.feed_rows.specs.StopLinks.{stop_set};
 ghost use Rattle.plan_rides.specs.Boarding.{MayRide};
 ghost use Rattle.feed_rows.specs.Legs.{leg_facts, legs_of};
 ghost use Rattle.fare_automaton.specs.Terms.{terms};
+ghost use Rattle.fare_timeframes.specs.BuiltTimeframes.{AreTimeframesOf};
 ghost use Rattle.feed_timetable.specs.Standings.{stand_of};
 ghost use Rattle.plan_plain.specs.Paths.{no_ride, with_ride};
 ghost use Rattle.plan_plain.specs.Searches.{AddsEnd, IsCheapest, IsEarliestEnd, HasRides, GoesOn, Gains, StartsAt, IsSearched};
@@ -40,7 +41,7 @@ struct End {
 #[derive(Drop)]
 struct Search<'s> {
     rides: &'s Rides<'s>,
-    timeframes: &'s Timeframes,
+    timeframes: &'s Timeframes<'s>,
 }
 
 impl<'s> Model for Search<'s> {
@@ -93,9 +94,9 @@ impl<'s> Search<'s> {
     // A choice of least price for the rides of the path; none where no choice pays them.
     fn price_of(&self, alloc: Global, path: &Path) -> Result<Option<Priced>, AllocError>
         requires legs { legs_of self.now.feed path.now.rides ≡ Some path.now.legs }
-        requires terms { path.now.terms ≡ terms self.now.feed self.now.query.rider }
+        requires terms { path.now.terms ≡ terms self.now.feed self.now.query.buyer }
         requires few { length path.now.rides ≤ self.now.query.rides }
-        ensures { IfOk result (IsCheapest self.now.feed path.now.rides self.now.query.rider) }
+        ensures { IfOk result (IsCheapest self.now.feed path.now.rides self.now.query.buyer) }
     {
         let _query = self.query();
         path.price(alloc)
@@ -232,7 +233,7 @@ impl<'s> Search<'s> {
         front: &mut Front<Entry>,
     ) -> Result<(), AllocError>
         requires starts { IsTrue (stands_for self.now.feed self.now.query.from first) }
-        requires path { path.old ≡ no_ride (terms self.now.feed self.now.query.rider) }
+        requires path { path.old ≡ no_ride (terms self.now.feed self.now.query.buyer) }
         ensures path { OnOk result (path.new ≡ path.old) }
         ensures gains { OnOk result (Gains self.now.feed self.now.query (StartsAt self.now.feed self.now.query first) front.old front.new) }
     {
@@ -248,7 +249,7 @@ impl<'s> Search<'s> {
         path: &mut Path,
         front: &mut Front<Entry>,
     ) -> Result<(), AllocError>
-        requires { path.old ≡ no_ride (terms self.now.feed self.now.query.rider) }
+        requires { path.old ≡ no_ride (terms self.now.feed self.now.query.buyer) }
         ensures { OnOk result (Gains self.now.feed self.now.query (IsEntry self.now.feed self.now.query) front.old front.new) }
     {
         let firsts = self.members(self.query().from);
@@ -258,9 +259,9 @@ impl<'s> Search<'s> {
         Ok(())
     }
 
-    // The exact answer to the query, by the fares for its rider.
+    // The exact answer to the query, by the fares for its buyer.
     fn entries(&self, alloc: Global, automaton: &Automaton) -> Result<Vec<Entry>, AllocError>
-        requires { automaton.now ≡ terms self.now.feed self.now.query.rider }
+        requires { automaton.now ≡ terms self.now.feed self.now.query.buyer }
         ensures exact { IfOk result (λ entries. IsExactAnswer self.now.feed self.now.query entries.items) }
         ensures covers { IfOk result (λ entries. CoversOffers self.now.feed self.now.query entries.items) }
     {
@@ -286,21 +287,21 @@ pub fn plain_entries(
     ensures exact { IfOk result (λ entries. IsExactAnswer timetable.now query.now entries.items) }
     ensures covers { IfOk result (λ entries. CoversOffers timetable.now query.now entries.items) }
 {
-    match Automaton::compile(alloc, timetable.feed(), query.rider) {
-        Ok(automaton) => entries_for_rider(timetable, query, alloc, &automaton),
+    match Automaton::compile(alloc, timetable.feed(), query.buyer) {
+        Ok(automaton) => entries_for_buyer(timetable, query, alloc, &automaton),
         Err(AllocError) => Err(AllocError),
     }
 }
 
-// The exact answer to a query, by the fares for its rider.
-fn entries_for_rider<'s>(
+// The exact answer to a query, by the fares for its buyer.
+fn entries_for_buyer<'s>(
     timetable: &'s Timetable<'s>,
     query: &'s Query,
     alloc: Global,
     automaton: &Automaton,
 ) -> Result<Vec<Entry>, AllocError>
     requires usual { IsUsualQuery query.now }
-    requires same { automaton.now ≡ terms timetable.now query.now.rider }
+    requires same { automaton.now ≡ terms timetable.now query.now.buyer }
     ensures exact { IfOk result (λ entries. IsExactAnswer timetable.now query.now entries.items) }
     ensures covers { IfOk result (λ entries. CoversOffers timetable.now query.now entries.items) }
 {
@@ -319,16 +320,36 @@ fn entries_by_runs<'s>(
 ) -> Result<Vec<Entry>, AllocError>
     requires usual { IsUsualQuery query.now }
     requires within { IsInScope runs.now.scope query.now }
-    requires same { automaton.now ≡ terms runs.now.feed query.now.rider }
+    requires same { automaton.now ≡ terms runs.now.feed query.now.buyer }
     ensures exact { IfOk result (λ entries. IsExactAnswer runs.now.feed query.now entries.items) }
     ensures covers { IfOk result (λ entries. CoversOffers runs.now.feed query.now entries.items) }
 {
     let rides = Rides::of(runs, query);
-    let feed = rides.timetable().feed();
-    let timeframes = Timeframes::between(alloc, feed, query.departure, deadline(query))?;
-    let search = Search {
-        rides: &rides,
-        timeframes: &timeframes,
-    };
+    let timetable = rides.timetable();
+    match Timeframes::between(
+        alloc,
+        timetable.feed(),
+        timetable.calendar(),
+        query.departure,
+        deadline(query),
+    ) {
+        Ok(timeframes) => entries_at(&rides, &timeframes, alloc, automaton),
+        Err(AllocError) => Err(AllocError),
+    }
+}
+
+// The exact answer to the query of these rides, by the timeframes of the feed.
+fn entries_at<'s>(
+    rides: &'s Rides<'s>,
+    timeframes: &'s Timeframes<'s>,
+    alloc: Global,
+    automaton: &Automaton,
+) -> Result<Vec<Entry>, AllocError>
+    requires timeframes { AreTimeframesOf rides.now.feed timeframes.now }
+    requires same { automaton.now ≡ terms rides.now.feed rides.now.query.buyer }
+    ensures exact { IfOk result (λ entries. IsExactAnswer rides.now.feed rides.now.query entries.items) }
+    ensures covers { IfOk result (λ entries. CoversOffers rides.now.feed rides.now.query entries.items) }
+{
+    let search = Search { rides, timeframes };
     search.entries(alloc, automaton)
 }

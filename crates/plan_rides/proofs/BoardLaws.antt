@@ -22,11 +22,10 @@ use Rattle.feed_laws.proofs.SoundTrips.{sound_trip}
 use Rattle.plan_patterns.specs.declared.runs.Run.{Run}
 use Rattle.plan_patterns.specs.Grouping.{PatternOf, PatternsOf, runs_at}
 use Rattle.plan_rides.specs.Boarding.{AreMarks, Seeking}
-use Rattle.plan_rides.specs.Scopes.{IsInScope}
-use Rattle.plan_rides.specs.Cutoffs.{IsEarlyRide, cutoff_by, is_early, is_enough, is_span}
+use Rattle.plan_rides.specs.Cutoffs.{cutoff_by, is_early, is_enough, is_span}
 use Rattle.plan_rides.specs.Departures.{HoldsRuns, run_by}
 use Rattle.plan_rides.specs.InTime.{deadline}
-use Rattle.plan_rides.specs.Spans.{AddsBoards, AreBoardSpans, FollowsOwn, IsEndFrom, IsOfPatterns, IsOfRuns, IsOfTrip, IsOfTripFrom, PutsBoard, is_end_by}
+use Rattle.plan_rides.specs.Spans.{AddsBoards, AreBoardSpans, FitsScope, FollowsOwn, IsEndFrom, IsOfPatterns, IsOfRuns, IsOfTrip, IsOfTripFrom, IsTimelyRide, PutsBoard, is_end_by}
 use Rattle.plan_rides.proofs.CutoffLaws.{enough_at, enough_past, enough_some, onward}
 use Rattle.plan_rides.proofs.DepartureLaws.{ride_end}
 
@@ -90,23 +89,23 @@ set_at_other old stop s one other =
     ∙ sym (unwrap_or-slice_get old s None)
 
 -- where nothing is put
-pub puts_none : (query : Query) (end : Option ℕ) (call : Call) (boards : List (Option Secs)) →
-    ((until : ℤ) → call.pickup ≡ true → is_end_by end until ≡ true → ⊥) → PutsBoard query end call boards boards
-puts_none query end call boards never = record {
+pub puts_none : (window : ℕ) (end : Option ℕ) (call : Call) (boards : List (Option Secs)) →
+    ((until : ℤ) → call.pickup ≡ true → is_end_by end until ≡ true → ⊥) → PutsBoard window end call boards boards
+puts_none window end call boards never = record {
   many = refl;
   still = λ stop secs is. is;
   here = λ until pickup ends after within. absurd (never until pickup ends);
 }
 
 -- where the shorter of the span at the stop and of the seconds from there until the end is put
-pub puts_shorter : (query : Query) (some : Option ℕ) (end : ℕ) (call : Call) (old : List (Option Secs))
+pub puts_shorter : (window : ℕ) (some : Option ℕ) (end : ℕ) (call : Call) (old : List (Option Secs))
     (before one : Option Secs) →
     some ≡ Some end → call.stop.0 < length old → before ≡ unwrap_or (slice_get old call.stop.0) None →
     ((secs : ℤ) → is_span before secs ≡ true → is_span one secs ≡ true) →
-    ((secs : ℤ) → pos (end - call.departure) ≤ℤ secs → secs ≤ℤ pos query.window → is_span one secs ≡ true) →
-    PutsBoard query some call old (set old call.stop.0 one)
+    ((secs : ℤ) → pos (end - call.departure) ≤ℤ secs → secs ≤ℤ pos window → is_span one secs ≡ true) →
+    PutsBoard window some call old (set old call.stop.0 one)
 unfolding is_end_by
-puts_shorter query some end call old before one is lt was still other = record {
+puts_shorter window some end call old before one is lt was still other = record {
   many = long;
   still = λ stop secs was_so. ⊎_elim
       (λ (inside : stop < length old). kept stop secs inside was_so (cases_eq stop call.stop.0))
@@ -166,15 +165,15 @@ ends_none spans calls k end past to call until from at off enough =
     let lt = slice_get_within calls to call at in
     absurd (omega (arith, lt, from, past))
 
-module _ (feed : FeedRows) (query : Query) (spans : List (Option Secs)) (trip : TripId) (sound : IsSoundFeed feed)
+module _ (feed : FeedRows) (window : ℕ) (spans : List (Option Secs)) (trip : TripId) (sound : IsSoundFeed feed)
     (long : length spans ≡ length feed.stops) where
   -- a ride that boards at the call departs no later than the soonest end leaves time for
   boards_early : (calls : List Call) (p k : ℕ) (call : Call) (end : Option ℕ) (mid new : List (Option Secs)) (until : ℤ)
       (ride : Ride) (facts : RideFacts) → calls ≡ calls_of feed trip → k ≡ p + 1 → slice_get calls p ≡ Some call →
-      IsEndFrom spans calls k end → PutsBoard query end call mid new → until ≤ℤ deadline query →
-      IsEarlyRide feed query (cutoff_by spans until) ride facts → ride.trip ≡ trip → ride.from ≡ p →
+      IsEndFrom spans calls k end → PutsBoard window end call mid new →
+      IsTimelyRide feed window (cutoff_by spans until) ride facts → ride.trip ≡ trip → ride.from ≡ p →
       is_early (cutoff_by new until) facts.from.0 facts.departure.0 ≡ true
-  boards_early calls p k call end mid new until ride facts are next is ends puts by e of from =
+  boards_early calls p k call end mid new until ride facts are next is ends puts e of from =
       subst (λ z. is_enough new facts.from.0 z ≡ true) (ends_at until base call.departure facts.departure.0 departs)
       (subst (λ n. is_enough new n ((until -ℤ base) -ℤ pos call.departure) ≡ true) stop
       (puts.here (until -ℤ base) (ap (λ (c : Call). c.pickup) (sym same) ∙ r.pickup)
@@ -184,7 +183,7 @@ module _ (feed : FeedRows) (query : Query) (spans : List (Option Secs)) (trip : 
       (subst (λ n. is_enough spans n (until -ℤ facts.arrival.0) ≡ true) (sym (ap
       (λ (f : RideFacts). f.to.0) r.facts_are)) e.early)))
       (in_order until base facts.departure.0 facts.arrival.0 call.departure departs timed left)
-      (fits until base facts.departure.0 query.departure.0 call.departure query.window departs e.since by)))
+      (subst (λ z. z ≤ℤ pos window) (sym (ends_at until base call.departure facts.departure.0 departs)) e.few)))
     where
       r : IsRideWith feed ride facts
       r = ride_facts_tells feed ride facts e.is
@@ -233,35 +232,32 @@ module _ (feed : FeedRows) (query : Query) (spans : List (Option Secs)) (trip : 
       in_order : (u b d a : ℤ) (s : ℕ) → b +ℤ pos s ≡ d → d ≤ℤ a → pos 0 ≤ℤ (u -ℤ a) → pos s ≤ℤ (u -ℤ b)
       in_order u b d a s e f g = omega (arith, ints)
 
-      fits : (u b d q : ℤ) (s w : ℕ) → b +ℤ pos s ≡ d → q ≤ℤ d → u ≤ℤ (q +ℤ pos w) → ((u -ℤ b) -ℤ pos s) ≤ℤ pos w
-      fits u b d q s w e f g = omega (arith, ints)
-
   -- one call more of a trip
   pub call_more : (calls : List Call) (p k : ℕ) (call : Call) (end : Option ℕ) (old mid new : List (Option Secs)) →
       calls ≡ calls_of feed trip → k ≡ p + 1 → slice_get calls p ≡ Some call → IsEndFrom spans calls k end →
-      AddsBoards feed query spans (IsOfTripFrom trip k) old mid → PutsBoard query end call mid new →
-      AddsBoards feed query spans (IsOfTripFrom trip p) old new
+      AddsBoards feed window spans (IsOfTripFrom trip k) old mid → PutsBoard window end call mid new →
+      AddsBoards feed window spans (IsOfTripFrom trip p) old new
   call_more calls p k call end old mid new are next is ends before puts = record {
     many = puts.many ∙ before.many;
     still = λ stop secs enough. puts.still stop secs (before.still stop secs enough);
-    all = λ until by ride facts e part. ⊎_elim
+    all = λ until ride facts e part. ⊎_elim
         (λ (here : ride.from < k).
         let from = part.1 in
-        boards_early calls p k call end mid new until ride facts are next is ends puts by e part.0
+        boards_early calls p k call end mid new until ride facts are next is ends puts e part.0
         (omega (arith, here, from, next)))
         (λ later. puts.still facts.from.0 (until -ℤ facts.departure.0)
-        (before.all until by ride facts e (part.0, later)))
+        (before.all until ride facts e (part.0, later)))
         (cases_lt ride.from k);
   }
 
-module _ (feed : FeedRows) (query : Query) (spans : List (Option Secs)) where
+module _ (feed : FeedRows) (window : ℕ) (spans : List (Option Secs)) where
   -- no call of it yet
   pub trip_none : (trip : TripId) (k : ℕ) (boards : List (Option Secs)) → length (calls_of feed trip) ≤ k →
-      AddsBoards feed query spans (IsOfTripFrom trip k) boards boards
+      AddsBoards feed window spans (IsOfTripFrom trip k) boards boards
   trip_none trip k boards past = record {
     many = refl;
     still = λ stop secs is. is;
-    all = λ until by ride facts e part.
+    all = λ until ride facts e part.
         let r = ride_facts_tells feed ride facts e.is in
         let lt = slice_get_within (calls_of feed trip) ride.from r.boarding
         (ap (λ t. slice_get (calls_of feed t) ride.from) (sym part.0) ∙ r.boards) in
@@ -271,62 +267,62 @@ module _ (feed : FeedRows) (query : Query) (spans : List (Option Secs)) where
 
   -- all calls of it
   pub trip_all : (trip : TripId) (k : ℕ) (old new : List (Option Secs)) → k ≤ 0 →
-      AddsBoards feed query spans (IsOfTripFrom trip k) old new → AddsBoards feed query spans (IsOfTrip trip) old new
+      AddsBoards feed window spans (IsOfTripFrom trip k) old new → AddsBoards feed window spans (IsOfTrip trip) old new
   trip_all trip k old new none adds = record {
     many = adds.many;
     still = adds.still;
-    all = λ until by ride facts e of. adds.all until by ride facts e (of, omega (arith, none));
+    all = λ until ride facts e of. adds.all until ride facts e (of, omega (arith, none));
   }
 
   -- ---- more runs, and more patterns
 
   -- one part after another
   boards_more : (Part More Whole : Ride → Type 0) (old mid new : List (Option Secs)) →
-      AddsBoards feed query spans Part old mid →
-      AddsBoards feed query spans More mid new → ((ride : Ride) → Whole ride → Part ride ⊎ More ride) →
-      AddsBoards feed query spans Whole old new
+      AddsBoards feed window spans Part old mid →
+      AddsBoards feed window spans More mid new → ((ride : Ride) → Whole ride → Part ride ⊎ More ride) →
+      AddsBoards feed window spans Whole old new
   boards_more Part More Whole old mid new a b split = record {
     many = b.many ∙ a.many;
     still = λ stop secs is. b.still stop secs (a.still stop secs is);
-    all = λ until by ride facts e whole. ⊎_elim
-        (λ part. b.still facts.from.0 (until -ℤ facts.departure.0) (a.all until by ride facts e part))
-        (λ more. b.all until by ride facts e more)
+    all = λ until ride facts e whole. ⊎_elim
+        (λ part. b.still facts.from.0 (until -ℤ facts.departure.0) (a.all until ride facts e part))
+        (λ more. b.all until ride facts e more)
         (split ride whole);
   }
 
   -- the same part, said otherwise
-  boards_same : (Part Whole : Ride → Type 0) (old new : List (Option Secs)) → AddsBoards feed query spans Part old new →
-      ((ride : Ride) → Whole ride → Part ride) → AddsBoards feed query spans Whole old new
+  boards_same : (Part Whole : Ride → Type 0) (old new : List (Option Secs)) → AddsBoards feed window spans Part old new →
+      ((ride : Ride) → Whole ride → Part ride) → AddsBoards feed window spans Whole old new
   boards_same Part Whole old new a part = record {
     many = a.many;
     still = a.still;
-    all = λ until by ride facts e whole. a.all until by ride facts e (part ride whole);
+    all = λ until ride facts e whole. a.all until ride facts e (part ride whole);
   }
 
   -- a part without rides
   boards_none : (Part : Ride → Type 0) (boards : List (Option Secs)) → ((ride : Ride) → Part ride → ⊥) →
-      AddsBoards feed query spans Part boards boards
+      AddsBoards feed window spans Part boards boards
   boards_none Part boards never = record {
     many = refl;
     still = λ stop secs is. is;
-    all = λ until by ride facts e part. absurd (never ride part);
+    all = λ until ride facts e part. absurd (never ride part);
   }
 
   -- no run yet, and no pattern
   pub runs_none : (runs : List Run) (boards : List (Option Secs)) →
-      AddsBoards feed query spans (IsOfRuns runs 0) boards boards
+      AddsBoards feed window spans (IsOfRuns runs 0) boards boards
   runs_none runs boards = boards_none (IsOfRuns runs 0) boards (λ ride of. let below = of.1 in omega (arith, below))
 
   pub patterns_none : (patterns : List PatternOf) (boards : List (Option Secs)) →
-      AddsBoards feed query spans (IsOfPatterns patterns 0) boards boards
+      AddsBoards feed window spans (IsOfPatterns patterns 0) boards boards
   patterns_none patterns boards = boards_none (IsOfPatterns patterns 0) boards (λ ride of. let below = of.1 in
       omega (arith, below))
 
   -- one run more
   pub runs_more : (runs : List Run) (k : ℕ) (x : Run) (old mid new : List (Option Secs)) → k < length runs →
-      AddsBoards feed query spans (IsOfRuns runs k) old mid →
-      AddsBoards feed query spans (IsOfTrip (get_or runs k x).trip) mid new →
-      AddsBoards feed query spans (IsOfRuns runs (k + 1)) old new
+      AddsBoards feed window spans (IsOfRuns runs k) old mid →
+      AddsBoards feed window spans (IsOfTrip (get_or runs k x).trip) mid new →
+      AddsBoards feed window spans (IsOfRuns runs (k + 1)) old new
   runs_more runs k x old mid new lt before adds =
       boards_more (IsOfRuns runs k) (IsOfTrip (get_or runs k x).trip) (IsOfRuns runs (k + 1)) old mid new before adds
       (λ ride of.
@@ -340,8 +336,8 @@ module _ (feed : FeedRows) (query : Query) (spans : List (Option Secs)) where
 
   -- one that is of the trip of the one before
   pub runs_own : (runs : List Run) (k : ℕ) (old new : List (Option Secs)) → FollowsOwn runs k →
-      AddsBoards feed query spans (IsOfRuns runs k) old new →
-      AddsBoards feed query spans (IsOfRuns runs (k + 1)) old new
+      AddsBoards feed window spans (IsOfRuns runs k) old new →
+      AddsBoards feed window spans (IsOfRuns runs (k + 1)) old new
   runs_own runs k old new own before =
       boards_same (IsOfRuns runs k) (IsOfRuns runs (k + 1)) old new before
       (λ ride of.
@@ -356,17 +352,17 @@ module _ (feed : FeedRows) (query : Query) (spans : List (Option Secs)) where
 
   -- all of them
   pub runs_all : (runs : List Run) (n : ℕ) (old new : List (Option Secs)) → length runs ≤ n →
-      AddsBoards feed query spans (IsOfRuns runs n) old new →
-      AddsBoards feed query spans (IsOfRuns runs (length runs)) old new
+      AddsBoards feed window spans (IsOfRuns runs n) old new →
+      AddsBoards feed window spans (IsOfRuns runs (length runs)) old new
   runs_all runs n old new all adds =
       boards_same (IsOfRuns runs n) (IsOfRuns runs (length runs)) old new adds
       (λ ride of. let lt = of.1 in (of.0, omega (arith, lt, all), of.2, of.3, of.4))
 
   -- one pattern more
   pub patterns_more : (patterns : List PatternOf) (k : ℕ) (runs : List Run) (old mid new : List (Option Secs)) →
-      runs ≡ runs_at patterns k → AddsBoards feed query spans (IsOfPatterns patterns k) old mid →
-      AddsBoards feed query spans (IsOfRuns runs (length runs)) mid new →
-      AddsBoards feed query spans (IsOfPatterns patterns (k + 1)) old new
+      runs ≡ runs_at patterns k → AddsBoards feed window spans (IsOfPatterns patterns k) old mid →
+      AddsBoards feed window spans (IsOfRuns runs (length runs)) mid new →
+      AddsBoards feed window spans (IsOfPatterns patterns (k + 1)) old new
   patterns_more patterns k runs old mid new are before adds =
       boards_more (IsOfPatterns patterns k) (IsOfRuns runs (length runs))
       (IsOfPatterns patterns (k + 1)) old mid new before adds
@@ -383,23 +379,27 @@ module _ (feed : FeedRows) (query : Query) (spans : List (Option Secs)) where
 
   -- all of them
   pub patterns_all : (patterns : List PatternOf) (n : ℕ) (old new : List (Option Secs)) → length patterns ≤ n →
-      AddsBoards feed query spans (IsOfPatterns patterns n) old new →
-      AddsBoards feed query spans (IsOfPatterns patterns (length patterns)) old new
+      AddsBoards feed window spans (IsOfPatterns patterns n) old new →
+      AddsBoards feed window spans (IsOfPatterns patterns (length patterns)) old new
   patterns_all patterns n old new all adds =
       boards_same (IsOfPatterns patterns n) (IsOfPatterns patterns (length patterns)) old new adds
       (λ ride of. let lt = of.1 in (of.0, omega (arith, lt, all), of.2))
 
--- the runs of all patterns have each ride of a query that takes more than one
-pub all_boards : (feed : FeedRows) (query : Query) (sought : Seeking) (spans old new : List (Option Secs)) (patterns : PatternsOf) →
-    HoldsRuns feed sought patterns → AreMarks feed sought → IsInScope sought.scope query → 1 < query.rides →
-    AddsBoards feed query spans (IsOfPatterns patterns.patterns (length patterns.patterns)) old new →
-    AreBoardSpans feed query spans new
-all_boards feed query sought spans old new patterns holds marks inside more adds until by ride facts is since in_time early =
-    adds.all until by ride facts (record { is = is; since = since; until = in_time; early = early })
+-- the runs of all patterns have each ride of a scope whose queries take more than one
+pub all_boards : (feed : FeedRows) (sought : Seeking) (window : ℕ) (spans old new : List (Option Secs)) (patterns : PatternsOf) →
+    HoldsRuns feed sought patterns → AreMarks feed sought → 1 < sought.scope.rides →
+    AddsBoards feed window spans (IsOfPatterns patterns.patterns (length patterns.patterns)) old new →
+    (query : Query) → FitsScope sought.scope window query → AreBoardSpans feed query spans new
+all_boards feed sought window spans old new patterns holds marks more adds query fits until by ride facts is since in_time early =
+    adds.all until ride facts
+    (record { is = is; early = early; few = left until query.departure.0 facts.departure.0 query.window by since fits.few })
     (holds.all ride facts (record {
-      some = subst (λ n. 0 < n) inside.rides (omega (arith, more));
+      some = omega (arith, more);
       is = is;
-      boards = marks.all (subst (λ n. 1 < n) inside.rides more) facts.from.0;
-      since = onward sought.scope.span.from.0 query.departure.0 facts.departure.0 inside.since since;
-      until = onward facts.arrival.0 (deadline query) sought.scope.span.until.0 in_time inside.until;
+      boards = marks.all more facts.from.0;
+      since = onward sought.scope.span.from.0 query.departure.0 facts.departure.0 fits.inside.since since;
+      until = onward facts.arrival.0 (deadline query) sought.scope.span.until.0 in_time fits.inside.until;
     }))
+  where
+    left : (u q d : ℤ) (w : ℕ) → u ≤ℤ (q +ℤ pos w) → q ≤ℤ d → w ≤ window → (u -ℤ d) ≤ℤ pos window
+    left u q d w by since few = omega (arith, ints)

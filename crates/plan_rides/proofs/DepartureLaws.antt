@@ -126,7 +126,7 @@ pub boarded_more : (feed : FeedRows) (sought : Seeking) (rows : List StopTimeRow
 boarded_more feed sought rows n d marks more old new sound same lt many listed adds before = record {
   many = many ∙ before.many;
   listed = listed;
-  inside = adds.only (length feed.trips) (row_trip feed rows n d sound same lt) before.inside;
+  inside = adds.right (length feed.trips) (row_trip feed rows n d sound same lt) before.inside;
   all = λ k e below boards. step k e boards (cases_lt k n) below;
 }
   where
@@ -136,7 +136,7 @@ boarded_more feed sought rows n d marks more old new sound same lt many listed a
     step k e boards (inr upper) below =
         let last : k ≡ n = omega (arith, upper, below) in
         let here = get_or_default rows n d e lt ∙ ap (λ (rs : List StopTimeRow). get_or rs n e) same in
-        rw last (subst (λ (r : StopTimeRow). Contains new r.trip) here adds.here)
+        rw last (subst (λ (r : StopTimeRow). Contains new r.trip) here (adds.all (get_or rows n d).trip refl))
 
 pub boarded_past : (feed : FeedRows) (sought : Seeking) (rows : List StopTimeRow) (n : ℕ) (d : StopTimeRow)
     (marks : List Bool) (trips : List TripId) → rows ≡ feed.stop_times → n < length rows →
@@ -584,16 +584,16 @@ since_of feed patterns stop serving from runs listed serves of are boardable =
 pub trip_there : (marks : List Bool) (trips : List TripId) (trip : TripId) → AreListed marks trips → slice_index_or marks trip.0 false ≡ true → AddsTrip trip trips trips
 trip_there marks trips trip listed marked = record {
   still = λ other has. has;
-  here = listed.all trip marked;
-  only = λ n lt all. all;
+  all = λ t same. subst (Contains trips) (sym same) (listed.all trip marked);
+  right = λ n lt all. all;
 }
 
 -- a trip that is listed last
 pub trip_added : (trip : TripId) (old new : List TripId) → new ≡ old ++ trip ∷ [] → AddsTrip trip old new
 trip_added trip old new pushed = subst (AddsTrip trip old) (sym pushed) (record {
   still = λ other has. Contains-append_left old (trip ∷ []) other has;
-  here = Contains-push old trip;
-  only = λ n lt all. All-push (λ (t : TripId). t.0 < n) old trip all lt;
+  all = λ t same. subst (Contains (old ++ trip ∷ [])) (sym same) (Contains-push old trip);
+  right = λ n lt all. All-push (λ (t : TripId). t.0 < n) old trip all lt;
 })
 
 -- what follows of two facts of what is there without an error

@@ -16,6 +16,7 @@ use Rattle.feed_rows.specs.Rides.{ride_facts}
 use Rattle.feed_rows.specs.Journeys.{is_caught}
 use Rattle.feed_rows.specs.JourneyStands.{Stand, way_to, next_stand}
 use Rattle.plain_laws.specs.Plain.{when}
+use Rattle.plain_laws.proofs.AddsLaws.{adds_more, adds_none, adds_same, besides_on}
 use Rattle.plain_laws.proofs.Laws.{int_le-true, le-int_le, slice_get-Contains}
 use Rattle.feed_laws.proofs.RideLaws.{ride_facts_tells}
 use Rattle.plan_rides.specs.declared.caught.CaughtRide.{CaughtRide}
@@ -39,32 +40,21 @@ module _ (feed : FeedRows) (query : Query) (latest : CutoffOf) (stop : ℕ) (fro
       AddsFound feed query latest stop from Part old mid → AddsFound feed query latest stop from More mid new →
       ((ride : Ride) (facts : RideFacts) → IsEarlyRide feed query latest ride facts → Whole ride → Part ride ⊎ More ride) →
       AddsFound feed query latest stop from Whole old new
-  found_more Part More Whole old mid new a b split = record {
-    still = λ ride h. b.still ride (a.still ride h);
-    all = λ ride facts e whole.
-        ⊎_elim (λ p. b.still ride (a.all ride facts e p)) (λ m. b.all ride facts e m) (split ride facts e whole);
-    right = λ x at. ⊎_elim (λ mid. a.right x mid) (λ own. inr own) (b.right x at);
-  }
+  found_more Part More Whole old mid new a b split =
+      adds_more (besides_on (IsFound feed query stop from) old mid new) a b
+      (λ ride own. ⊎_elim (λ p. inl (own.0, own.1, p)) (λ m. inr (own.0, own.1, m)) (split ride own.0 own.1 own.2))
 
   -- the same part, said otherwise
   pub found_same : (Part Whole : Ride → Type 0) (old new : List CaughtRide) → AddsFound feed query latest stop from Part old new →
       ((ride : Ride) (facts : RideFacts) → IsEarlyRide feed query latest ride facts → Whole ride → Part ride) →
       AddsFound feed query latest stop from Whole old new
-  found_same Part Whole old new a part = record {
-    still = a.still;
-    all = λ ride facts e whole. a.all ride facts e (part ride facts e whole);
-    right = a.right;
-  }
+  found_same Part Whole old new a part = adds_same a (λ ride own. (own.0, own.1, part ride own.0 own.1 own.2))
 
   -- a part of which no ride gets somewhere early enough
   pub found_none : (Whole : Ride → Type 0) (rides : List CaughtRide) →
       ((ride : Ride) (facts : RideFacts) → IsEarlyRide feed query latest ride facts → Whole ride → ⊥) →
       AddsFound feed query latest stop from Whole rides rides
-  found_none Whole rides never = record {
-    still = λ ride h. h;
-    all = λ ride facts e whole. absurd (never ride facts e whole);
-    right = λ x at. inl at;
-  }
+  found_none Whole rides never = adds_none (λ x at. inl at) (λ ride own. never ride own.0 own.1 own.2)
 
   -- before the first departure
   pub found_by_none : (departures : List Departure) (rides : List CaughtRide) →
@@ -153,7 +143,7 @@ module _ (feed : FeedRows) (query : Query) (latest : CutoffOf) (d : Departure) w
         let all : new ≡ old ++ caught ∷ [] = pushed ∙ ap (λ r. old ++ record { ride = r; facts = facts } ∷ []) same in
         subst (AddsFound feed query latest d.stop.0 d.at.0 (IsByTo feed d to) old) (sym all) (record {
           still = λ other h. (h.0, Contains-append_left old (caught ∷ []) h.0 h.1, h.2);
-          all = λ other after e by. (caught, Contains-push old caught, sym (same_ride feed d to other by));
+          all = λ other own. (caught, Contains-push old caught, sym (same_ride feed d to other own.2));
           right = λ x at. ⊎_elim inl (λ own. inr (subst (IsFound feed query d.stop.0 d.at.0) own (found_at facts goes)))
               (Contains-push_cases old caught x at);
         })
@@ -287,8 +277,8 @@ pub has_found : (me : Positioned) (latest : CutoffOf) (stand : Stand) (reached :
     AddsFound me.feed me.query latest reached.stop.0 reached.earliest.0 (IsFromReached me reached) old new → HasRide new ride
 has_found me latest stand reached ride next old new within is e early takes adds =
     let c = caught_ride me.feed me.query stand ride next e in
-    adds.all ride c.facts (caught_wanted me.feed me.query latest stand ride next within early c)
-    (from_reached me stand reached ride next is takes c)
+    adds.all ride
+    (c.facts, caught_wanted me.feed me.query latest stand ride next within early c, from_reached me stand reached ride next is takes c)
 
 -- ---- all rides that are caught
 
@@ -346,7 +336,7 @@ pub holds_found : (me : Positioned) (latest : CutoffOf) (reached : Reached) (rid
     AddsFound me.feed me.query latest reached.stop.0 reached.earliest.0 (IsFromReached me reached) [] rides →
     HoldsFrom me latest reached rides
 holds_found me latest reached rides adds = record {
-  all = adds.all;
+  all = λ ride facts e from. adds.all ride (facts, e, from);
   right = λ caught at. ⊎_elim (λ none. let lt = none.1 in absurd (omega (arith, lt)))
       (λ own. record { goes = own.goes; boards = own.boards; since = itself caught.facts.departure.0; until = own.until })
       (adds.right caught at);

@@ -14,6 +14,7 @@ use Rattle.feed_rows.specs.JourneyStands.{Stand, first_stand, way_to}
 use Rattle.feed_rows.specs.StopLinks.{stop_set}
 use Rattle.feed_walks.specs.OutOf.{out_of}
 use Rattle.feed_walks.specs.declared.steps.Step.{Step}
+use Rattle.plain_laws.proofs.AddsLaws.{adds_more, adds_same}
 use Rattle.plan_rides.specs.Boarding.{Seeking, is_marked, MarksFrom, AreMarks, AddsMarks, IsNear, MarksFirsts, MayRide, MayBoard, IsAmong}
 use Rattle.plan_rides.proofs.CaughtLaws.{walk_or_own, in_walks}
 
@@ -54,46 +55,25 @@ past_marked [] stop past = refl
 past_marked (m ∷ marks) zero past = absurd (omega arith)
 past_marked (m ∷ marks) (suc stop) past = past_marked marks stop (omega arith)
 
--- one part after another
-pub marks_more : (Part More Whole : ℕ → Type 0) (old mid new : List Bool) → AddsMarks Part old mid →
-    AddsMarks More mid new →
-    ((stop : ℕ) → Whole stop → Part stop ⊎ More stop) → AddsMarks Whole old new
-marks_more Part More Whole old mid new a b split = record {
-  many = b.many ∙ a.many;
-  still = λ stop h. b.still stop (a.still stop h);
-  all = λ stop whole. ⊎_elim (λ p. b.still stop (a.all stop p)) (λ m. b.all stop m) (split stop whole);
-}
-
 -- before the first walk
 pub marks_start : (first : StopId) (walks : List Step) (old new : List Bool) →
     AddsMarks (λ stop. stop ≡ first.0) old new →
     AddsMarks (IsNear first walks 0) old new
-marks_start first walks old new adds = record {
-  many = adds.many;
-  still = adds.still;
-  all = λ stop near. ⊎_elim
-      (λ same. adds.all stop same)
-      (λ among. let below = among.1 in absurd (omega (arith, below)))
-      near;
-}
+marks_start first walks old new adds =
+    adds_same adds (λ stop near. ⊎_elim (λ same. same) (λ among. let below = among.1 in absurd (omega (arith, below))) near)
 
 -- the first stop is among them
 pub marks_own : (first : StopId) (walks : List Step) (n : ℕ) (old new : List Bool) →
     AddsMarks (IsNear first walks n) old new →
     AddsMarks (λ stop. stop ≡ first.0) old new
-marks_own first walks n old new adds = record {
-  many = adds.many;
-  still = adds.still;
-  all = λ stop same. adds.all stop (inl same);
-}
+marks_own first walks n old new adds = adds_same adds (λ stop same. inl same)
 
 -- one walk more
 pub marks_walk : (first : StopId) (walks : List Step) (k : ℕ) (d : Step) (old mid new : List Bool) → k < length walks →
     AddsMarks (IsNear first walks k) old mid → AddsMarks (λ other. other ≡ (get_or walks k d).to.0) mid new →
     AddsMarks (IsNear first walks (k + 1)) old new
 marks_walk first walks k d old mid new lt before adds =
-    marks_more (IsNear first walks k) (λ other. other ≡ (get_or walks k d).to.0)
-    (IsNear first walks (k + 1)) old mid new before adds
+    adds_more (λ a b. b ∙ a) before adds
     (λ stop near. ⊎_elim
     (λ same. inl (inl same))
     (λ among.
@@ -127,7 +107,7 @@ marks_near feed query first walks n old new are all many adds stop way is = ⊎_
           (out_of feed first) at.0 step lt ∙ ap Some at.2,
       refl,
     )))
-    (λ past. let same = adds.many in past_marked new stop.0 (omega (arith, past, many, same)))
+    (λ past. let same = adds.right in past_marked new stop.0 (omega (arith, past, many, same)))
     (cases_lt stop.0 (length feed.stops)))
     (λ own. adds.all stop.0 (inl (ap (λ (s : StopId). s.0) own.0)))
     (walk_or_own feed query (first_stand query first) stop way is)

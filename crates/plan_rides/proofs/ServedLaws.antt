@@ -54,8 +54,8 @@ pub timed_past : (feed : FeedRows) (span : Span) (patterns : List PatternOf) (st
     AddsTimed feed span patterns stop serving served served
 timed_past feed span patterns stop serving listed served none are = record {
   still = λ ride takes. takes;
-  all = λ ride facts is since takes.
-      let found = boarding_for feed patterns serving ride facts listed span.from.0 are is takes since in
+  all = λ ride by.
+      let found = boarding_for feed patterns serving ride by.facts listed span.from.0 are by.is by.takes by.since in
       let lt = found.1.1 in
       absurd (omega (arith, lt, none));
   right = λ right. right;
@@ -70,13 +70,13 @@ pub timed_more : (feed : FeedRows) (span : Span) (patterns : List PatternOf) (st
     AddsTimed feed span patterns stop serving old (old ++ timed ∷ [])
 timed_more feed span patterns stop serving listed x timed old is first last serves are = record {
   still = λ ride takes. timed_still patterns old timed ride takes;
-  all = λ ride facts goes since takes.
+  all = λ ride by.
       let long = length_push old timed in (
         length old,
         omega (arith, long),
         timed,
         slice_get-push_last old timed (length old) refl,
-        subst (λ s. TakesServing patterns s ride) (sym is) takes,
+        subst (λ s. TakesServing patterns s ride) (sym is) by.takes,
       );
   right = λ right. All-append (IsTimed feed span patterns stop) old (timed ∷ []) right
       (All-cons (IsTimed feed span patterns stop) timed [] here (All-nil (IsTimed feed span patterns stop)));
@@ -132,7 +132,7 @@ pub lists_more : (feed : FeedRows) (span : Span) (patterns : List PatternOf) (st
 lists_more feed span patterns stop servings k x old new lt before adds = record {
   all = λ ride facts is since takes. ⊎_elim
       (λ lower. adds.still ride (before.all ride facts is since lower))
-      (λ here. adds.all ride facts is since here)
+      (λ here. adds.all ride (record { facts = facts; is = is; since = since; takes = here }))
       (takes_more patterns servings k x ride lt takes);
   right = adds.right before.right;
 }

@@ -63,71 +63,42 @@ span_behind span s walk secs some is =
 
 -- ---- where a journey ends without a further ride
 
--- it ends so many seconds later
-pub end_after : (feed : FeedRows) (query : Query) (stop last : StopId) (at : ℤ) (seconds : ℕ) →
-    egress feed query stop last ≡ Some seconds →
-    end_arrival feed query (record { stop = stop; at = at; fresh = false }) last ≡ Some (at +ℤ pos seconds)
-unfolding end_arrival
-end_after feed query stop last at seconds is = rw is refl
-
--- it doesn't end where there is no arrival
-pub end_never : (feed : FeedRows) (query : Query) (stop last : StopId) (at : ℤ) (result : Option Moment) (seconds : ℕ) →
-    option_map (λ (m : Moment). m.0) result ≡ end_arrival feed query
-    (record { stop = stop; at = at; fresh = false }) last →
-    result ≡ None → egress feed query stop last ≡ Some seconds → ⊥
-end_never feed query stop last at result seconds is none ends =
-    none-some (at +ℤ pos seconds)
-    (sym (ap (option_map (λ (m : Moment). m.0)) none) ∙ is ∙ end_after feed query stop last at seconds ends)
-
--- the arrival is so many seconds later
-pub end_told : (feed : FeedRows) (query : Query) (stop last : StopId) (at : ℤ) (result : Option Moment) (end : Moment) →
-    option_map (λ (m : Moment). m.0) result ≡ end_arrival feed query
-    (record { stop = stop; at = at; fresh = false }) last →
-    result ≡ Some end → (seconds : ℕ) × (egress feed query stop last ≡ Some seconds) × (end.0 ≡ at +ℤ pos seconds)
-unfolding end_arrival
-end_told feed query stop last at result end is some = by (egress feed query stop last) refl
-    (sym (ap (option_map (λ (m : Moment). m.0)) some) ∙ is)
-  where
-    by : (o : Option ℕ) → egress feed query stop last ≡ o →
-        Some end.0 ≡ option_map (λ s. at +ℤ pos s) (egress feed query stop last) →
-        (seconds : ℕ) × (egress feed query stop last ≡ Some seconds) × (end.0 ≡ at +ℤ pos seconds)
-    by None e ends = absurd (none-some end.0 (sym (ends ∙ ap (option_map (λ s. at +ℤ pos s)) e)))
-    by (Some seconds) e ends =
-        (seconds, e, same_Some _ _ (ends ∙ ap (option_map (λ s. at +ℤ pos s)) e))
-
 -- before the first last stop
-pub ends_none : (feed : FeedRows) (query : Query) (stop : StopId) (lasts : List StopId) (span : Option Secs) →
+pub ends_none : (feed : FeedRows) (query : Query) (window : ℕ) (stop : StopId) (lasts : List StopId) (span : Option Secs) →
     (last : StopId) (seconds : ℕ) → IsAmong lasts 0 last → egress feed query stop last ≡ Some seconds →
-    seconds ≤ query.window → is_span span (pos seconds) ≡ true
-ends_none feed query stop lasts span last seconds among is few = let below = among.1 in absurd (omega (arith, below))
+    seconds ≤ window → is_span span (pos seconds) ≡ true
+ends_none feed query window stop lasts span last seconds among is few = let below = among.1 in absurd (omega (arith, below))
 
 -- one last stop more
-pub ends_more : (feed : FeedRows) (query : Query) (stop : StopId) (lasts : List StopId) (k : ℕ) (d : StopId)
+pub ends_more : (feed : FeedRows) (query : Query) (window : ℕ) (stop : StopId) (lasts : List StopId) (k : ℕ) (d : StopId)
     (span one new : Option Secs) →
     k < length lasts → ((secs : ℤ) → is_span span secs ≡ true → is_span new secs ≡ true) →
     ((secs : ℤ) → is_span one secs ≡ true → is_span new secs ≡ true) →
-    ((seconds : ℕ) → egress feed query stop (get_or lasts k d) ≡ Some seconds → seconds ≤ query.window →
+    ((seconds : ℕ) → egress feed query stop (get_or lasts k d) ≡ Some seconds → seconds ≤ window →
     is_span one (pos seconds) ≡ true) →
     ((last : StopId) (seconds : ℕ) → IsAmong lasts k last → egress feed query stop last ≡ Some seconds →
-    seconds ≤ query.window → is_span span (pos seconds) ≡ true) →
+    seconds ≤ window → is_span span (pos seconds) ≡ true) →
     (last : StopId) (seconds : ℕ) → IsAmong lasts (k + 1) last → egress feed query stop last ≡ Some seconds →
-    seconds ≤ query.window → is_span new (pos seconds) ≡ true
-ends_more feed query stop lasts k d span one new lt still other here before last seconds among is few = ⊎_elim
+    seconds ≤ window → is_span new (pos seconds) ≡ true
+ends_more feed query window stop lasts k d span one new lt still other here before last seconds among is few = ⊎_elim
     (λ lower. still (pos seconds) (before last seconds lower is few))
     (λ (same : last ≡ get_or lasts k d). other (pos seconds)
     (here seconds (subst (λ s. egress feed query stop s ≡ Some seconds) same is) few))
     (among_more lasts k d last lt among)
 
 -- all of them
-pub ends_all : (feed : FeedRows) (query : Query) (stop : StopId) (lasts : List StopId) (n : ℕ) (span : Option Secs) →
-    lasts ≡ stop_set feed query.to → length lasts ≤ n →
+pub ends_all : (feed : FeedRows) (query : Query) (to : StopId) (window : ℕ) (stop : StopId) (lasts : List StopId) (n : ℕ)
+    (span : Option Secs) → query.to ≡ to → query.window ≤ window →
+    lasts ≡ stop_set feed to → length lasts ≤ n →
     ((last : StopId) (seconds : ℕ) → IsAmong lasts n last → egress feed query stop last ≡ Some seconds →
-    seconds ≤ query.window → is_span span (pos seconds) ≡ true) → IsEndSpan feed query stop span
-ends_all feed query stop lasts n span are whole all last seconds stands is few =
+    seconds ≤ window → is_span span (pos seconds) ≡ true) → IsEndSpan feed query stop span
+ends_all feed query to window stop lasts n span goes short are whole all last seconds stands is few =
+    let same = are ∙ ap (stop_set feed) (sym goes) in
     let member = member_of_stands_for feed query.to last stands in
     let lt = member.1 in
-    let long = ap length are in
-    all last seconds (member.0, omega (arith, lt, long, whole), ap (λ ss. slice_get ss member.0) are ∙ member.2) is few
+    let long = ap length same in
+    all last seconds (member.0, omega (arith, lt, long, whole), ap (λ ss. slice_get ss member.0) same ∙ member.2) is
+    (omega (arith, few, short))
 
 -- at each stop
 pub end_spans : (feed : FeedRows) (query : Query) (n : ℕ) (spans : List (Option Secs)) → length spans ≤ n →
@@ -156,15 +127,15 @@ spans_more Holds n spans one many here before stop below =
     (cases_lt stop n)
 
 -- one walk more
-pub walks_more : (query : Query) (boards : List (Option Secs)) (walks : List Step) (k : ℕ) (x : Step)
+pub walks_more : (window : ℕ) (boards : List (Option Secs)) (walks : List Step) (k : ℕ) (x : Step)
     (span new : Option Secs) →
     k < length walks → ((secs : ℤ) → is_span span secs ≡ true → is_span new secs ≡ true) →
-    ((secs : ℤ) → secs ≤ℤ pos query.window →
+    ((secs : ℤ) → secs ≤ℤ pos window →
     is_span (unwrap_or (slice_get boards (get_or walks k x).to.0) None)
     (secs -ℤ pos (get_or walks k x).seconds.0) ≡ true →
     is_span new secs ≡ true) →
-    HasWalkSpans query boards walks k span → HasWalkSpans query boards walks (k + 1) new
-walks_more query boards walks k x span new lt still one before i step secs below there few is =
+    HasWalkSpans window boards walks k span → HasWalkSpans window boards walks (k + 1) new
+walks_more window boards walks k x span new lt still one before i step secs below there few is =
     ⊎_elim
     (λ lower. still secs (before i step secs lower there few is))
     (λ upper.
@@ -177,9 +148,9 @@ walks_more query boards walks k x span new lt still one before i step secs below
 
 -- ---- one more ride
 
-module _ (feed : FeedRows) (query : Query) (spans boards new : List (Option Secs)) (sound : IsSoundFeed feed)
-    (many : length boards ≡ length feed.stops) (serve : AreBoardSpans feed query spans boards)
-    (before : AreAllBefore feed query spans boards new) where
+module _ (feed : FeedRows) (window : ℕ) (query : Query) (spans boards new : List (Option Secs)) (sound : IsSoundFeed feed)
+    (many : length boards ≡ length feed.stops) (before : AreAllBefore feed window spans boards new)
+    (few : query.window ≤ window) (serve : AreBoardSpans feed query spans boards) where
   still : (stop : ℕ) (secs : ℤ) → is_enough spans stop secs ≡ true → is_enough new stop secs ≡ true
   still stop secs enough = ⊎_elim
       (λ lt. enough_at new stop secs (subst (λ n. stop < n) (sym before.many) lt)
@@ -208,8 +179,8 @@ module _ (feed : FeedRows) (query : Query) (spans boards new : List (Option Secs
       behind : (u at : ℤ) (way : ℕ) → u -ℤ (at +ℤ pos way) ≡ (u -ℤ at) -ℤ pos way
       behind u at way = omega (arith, ints)
 
-      left : (u q at : ℤ) (w : ℕ) → u ≤ℤ (q +ℤ pos w) → q ≤ℤ at → (u -ℤ at) ≤ℤ pos w
-      left u q at w a b = omega (arith, ints)
+      left : (u q at : ℤ) (w : ℕ) → u ≤ℤ (q +ℤ pos w) → q ≤ℤ at → w ≤ window → (u -ℤ at) ≤ℤ pos window
+      left u q at w a b short = omega (arith, ints)
 
       board : is_span (unwrap_or (slice_get boards c.facts.from.0) None) ((until -ℤ stand.at) -ℤ pos c.way) ≡ true
       board =
@@ -230,7 +201,7 @@ module _ (feed : FeedRows) (query : Query) (spans boards new : List (Option Secs
           let is = slice_get-get_or (out_of feed stand.stop) walk.0 step walk.1 ∙ ap Some walk.2 in
           enough_at new stand.stop.0 (until -ℤ stand.at) (subst (λ n. stand.stop.0 < n) (sym before.many) lt)
           ∙ (before.all stand.stop.0 lt).walks walk.0 step (until -ℤ stand.at) walk.1 is
-          (left until query.departure.0 stand.at query.window by within.since) board
+          (left until query.departure.0 stand.at query.window by within.since few) board
 
   pub one_more : IsOneMoreSpan feed query spans new
   one_more = record { still = still; rides = rides }

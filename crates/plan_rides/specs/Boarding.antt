@@ -1,5 +1,5 @@
 -- Where the rides of a search may board.
-use Rattle.std.specs.Prelude.{◌≡◌, ◌⊎◌, ℕ, ◌<◌, Bool, true, ◌&&◌, List, length, slice_get, slice_index_or, Some, IsTrue}
+use Rattle.std.specs.Prelude.{◌≡◌, ◌⊎◌, ℕ, ◌<◌, Bool, true, ◌&&◌, List, slice_get, slice_index_or, Some, IsTrue}
 use Rattle.transit_base.specs.declared.numbers.StopId.{StopId}
 use Rattle.feed_rows.specs.declared.journeys.Query.{Query}
 use Rattle.feed_rows.specs.declared.rows.StopTimeRow.{StopTimeRow}
@@ -7,6 +7,7 @@ use Rattle.feed_rows.specs.FeedRows.{FeedRows}
 use Rattle.feed_rows.specs.JourneyStands.{Stand, first_stand, way_to}
 use Rattle.feed_rows.specs.Journeys.{stands_for}
 use Rattle.feed_walks.specs.declared.steps.Step.{Step}
+use Rattle.plain_laws.specs.Adds.{Adds, AsMany}
 use Rattle.plan_rides.specs.declared.scope.Scope.{Scope}
 
 -- the stop is marked; a stop past the end of the marks counts as such
@@ -42,10 +43,8 @@ pub record AreMarks (feed : FeedRows) (sought : Seeking) : Type 0 where
   pub all : 1 < sought.scope.rides → (stop : ℕ) → is_marked sought.marks stop ≡ true
 
 -- the new marks have those that were there, and one for each stop of this part
-pub record AddsMarks (Part : ℕ → Type 0) (old new : List Bool) : Type 0 where
-  pub many : length new ≡ length old
-  pub still : (stop : ℕ) → is_marked old stop ≡ true → is_marked new stop ≡ true
-  pub all : (stop : ℕ) → Part stop → is_marked new stop ≡ true
+abbrev pub AddsMarks : (ℕ → Type 0) → List Bool → List Bool → Type 0
+AddsMarks = Adds AsMany (λ (marks : List Bool) (stop : ℕ). is_marked marks stop ≡ true)
 
 -- the stop is this first stop, or one of the first n walks leads there
 abbrev pub IsNear : StopId → List Step → ℕ → ℕ → Type 0

@@ -12,6 +12,7 @@ use Rattle.feed_rows.specs.declared.journeys.RideFacts.{RideFacts}
 use Rattle.feed_rows.specs.FeedRows.{FeedRows}
 use Rattle.feed_rows.specs.Calls.{calls_of}
 use Rattle.feed_rows.specs.Rides.{ride_facts, trip_network}
+use Rattle.plain_laws.specs.Adds.{Adds}
 use Rattle.plain_laws.specs.Plain.{when}
 use Rattle.plan_patterns.specs.declared.pattern.Boarding.{Boarding}
 use Rattle.plan_patterns.specs.declared.runs.Run.{Run}
@@ -45,11 +46,14 @@ pub record AreListed (marks : List Bool) (trips : List TripId) : Type 0 where
   pub marked : All (λ (trip : TripId). slice_index_or marks trip.0 false ≡ true) trips
   pub once : AllPairs (λ (a : TripId) (b : TripId). a ≢ b) trips
 
--- the new list has the trips of the old one and the trip; where their numbers are below a bound, all are
-pub record AddsTrip (trip : TripId) (old new : List TripId) : Type 0 where
-  pub still : (other : TripId) → Contains old other → Contains new other
-  pub here : Contains new trip
-  pub only : (n : ℕ) → trip.0 < n → All (λ (t : TripId). t.0 < n) old → All (λ (t : TripId). t.0 < n) new
+-- where the numbers of the old list's trips and that of this trip are below a bound, those of the new one are
+abbrev pub StayBelow : TripId → List TripId → List TripId → Type 0
+StayBelow trip old new =
+    (n : ℕ) → trip.0 < n → All (λ (t : TripId). t.0 < n) old → All (λ (t : TripId). t.0 < n) new
+
+-- the new list has the trips of the old one and the trip
+abbrev pub AddsTrip : TripId → List TripId → List TripId → Type 0
+AddsTrip trip = Adds (StayBelow trip) Contains (λ (t : TripId). t ≡ trip)
 
 -- where the ride departs
 abbrev pub departure_with : Ride → RideFacts → Departure

@@ -5,7 +5,7 @@ use Rattle.feed_rows.specs.declared.journeys.Call.{Call}
 use Rattle.feed_rows.specs.declared.journeys.Query.{Query}
 use Rattle.feed_rows.specs.declared.journeys.Ride.{Ride}
 use Rattle.feed_rows.specs.FeedRows.{FeedRows}
-use Rattle.feed_rows.specs.Limits.{most_window}
+use Rattle.feed_rows.specs.Limits.{most_rides, most_window}
 use Rattle.feed_rows.specs.JourneyStands.{Stand, stand_at_end, next_stand}
 use Rattle.feed_rows.specs.Rides.{ride_facts}
 use Rattle.plain_laws.specs.Plain.{when}
@@ -29,7 +29,7 @@ next_in_time feed query stand ride = option_and_then (if_in_time query) (next_st
 pub record IsUsualQuery (query : Query) : Type 0 where
   pub early : negsuc 2_208_988_799 ≤ℤ query.departure.0
   pub late : query.departure.0 ≤ℤ pos 32_504_284_800
-  pub rides : query.rides ≤ 8
+  pub rides : query.rides ≤ most_rides
   pub window : query.window ≤ most_window
 
 -- one stands there no earlier than the query's departure and no later than its window ends

@@ -6,6 +6,7 @@ use Rattle.feed_rows.specs.declared.journeys.RideFacts.{RideFacts}
 use Rattle.feed_rows.specs.FeedRows.{FeedRows}
 use Rattle.feed_rows.specs.JourneyStands.{Stand, way_to}
 use Rattle.feed_rows.specs.Rides.{ride_facts}
+use Rattle.plain_laws.specs.Adds.{Adds, OnlyBesides}
 use Rattle.plan_patterns.specs.Grouping.{PatternOf}
 use Rattle.plan_rides.specs.declared.caught.CaughtRide.{CaughtRide}
 use Rattle.plan_rides.specs.declared.positions.Reached.{Reached}
@@ -57,13 +58,15 @@ pub record IsFound (feed : FeedRows) (query : Query) (stop : ℕ) (from : ℤ) (
   pub since : from ≤ℤ caught.facts.departure.0
   pub until : caught.facts.arrival.0 ≤ℤ deadline query
 
+-- the ride is of this part, and gets somewhere early enough
+abbrev pub IsEarlyOf : FeedRows → Query → CutoffOf → (Ride → Type 0) → Ride → Type 0
+IsEarlyOf feed query latest Part ride = (facts : RideFacts) × IsEarlyRide feed query latest ride facts × Part ride
+
 -- the new list has what it had, and each ride of this part that gets somewhere early enough; what else it has boards at this
 -- stop, departs no earlier than this, and arrives in time
-pub record AddsFound (feed : FeedRows) (query : Query) (latest : CutoffOf) (stop : ℕ) (from : ℤ)
-    (Part : Ride → Type 0) (old new : List CaughtRide) : Type 0 where
-  pub still : (ride : Ride) → HasRide old ride → HasRide new ride
-  pub all : (ride : Ride) (facts : RideFacts) → IsEarlyRide feed query latest ride facts → Part ride → HasRide new ride
-  pub right : (caught : CaughtRide) → Contains new caught → Contains old caught ⊎ IsFound feed query stop from caught
+abbrev pub AddsFound : FeedRows → Query → CutoffOf → ℕ → ℤ → (Ride → Type 0) → List CaughtRide → List CaughtRide → Type 0
+AddsFound feed query latest stop from Part =
+    Adds (OnlyBesides (IsFound feed query stop from)) HasRide (IsEarlyOf feed query latest Part)
 
 -- the ride boards at the position, no earlier than one is there
 pub record IsFromReached (me : Positioned) (reached : Reached) (ride : Ride) : Type 0 where

@@ -4,6 +4,7 @@ use Rattle.feed_rows.specs.declared.journeys.Ride.{Ride}
 use Rattle.feed_rows.specs.declared.journeys.RideFacts.{RideFacts}
 use Rattle.feed_rows.specs.FeedRows.{FeedRows}
 use Rattle.feed_rows.specs.Rides.{ride_facts}
+use Rattle.plain_laws.specs.Adds.{Adds, AllStay}
 use Rattle.plan_patterns.specs.declared.serving.Serving.{Serving}
 use Rattle.plan_patterns.specs.declared.span.Span.{Span}
 use Rattle.plan_patterns.specs.Grouping.{PatternOf, PatternsOf}
@@ -45,12 +46,18 @@ pub record AreTimedStops (feed : FeedRows) (sought : Seeking) (patterns : Patter
   pub of : patterns.feed ≡ feed
   pub each : (stop : ℕ) → AreTimed feed sought patterns.patterns stop (list_at by_stop stop)
 
+-- the ride boards at the position, no earlier than the span begins
+pub record TakesWithin (feed : FeedRows) (span : Span) (patterns : List PatternOf) (serving : Serving) (ride : Ride) :
+    Type 0 where
+  pub facts : RideFacts
+  pub is : ride_facts feed ride ≡ Some facts
+  pub since : span.from.0 ≤ℤ facts.departure.0
+  pub takes : TakesServing patterns serving ride
+
 -- the new list has what it had, and the position, where a ride boards there no earlier than the span begins; and stays
 -- right
-pub record AddsTimed (feed : FeedRows) (span : Span) (patterns : List PatternOf) (stop : ℕ) (serving : Serving)
-    (old new : List TimedServing) : Type 0 where
-  pub still : (ride : Ride) → TakesTimed patterns old (length old) ride → TakesTimed patterns new (length new) ride
-  pub all : (ride : Ride) (facts : RideFacts) → ride_facts feed ride ≡ Some facts →
-      span.from.0 ≤ℤ facts.departure.0 → TakesServing patterns serving ride → TakesTimed patterns new (length new)
-      ride
-  pub right : All (IsTimed feed span patterns stop) old → All (IsTimed feed span patterns stop) new
+abbrev pub AddsTimed : FeedRows → Span → List PatternOf → ℕ → Serving → List TimedServing → List TimedServing → Type 0
+AddsTimed feed span patterns stop serving =
+    Adds (AllStay (IsTimed feed span patterns stop))
+    (λ (served : List TimedServing) (ride : Ride). TakesTimed patterns served (length served) ride)
+    (TakesWithin feed span patterns serving)

@@ -9,14 +9,17 @@ use Rattle.feed_rows.specs.declared.journeys.Ride.{Ride}
 use Rattle.feed_rows.specs.declared.journeys.RideFacts.{RideFacts}
 use Rattle.feed_rows.specs.FeedRows.{FeedRows}
 use Rattle.feed_rows.specs.Journeys.{egress, stands_for}
+use Rattle.feed_rows.specs.Rides.{ride_facts}
 use Rattle.feed_rows.specs.JourneyStands.{Stand}
 use Rattle.feed_walks.specs.OutOf.{out_of}
 use Rattle.feed_walks.specs.declared.steps.Step.{Step}
 use Rattle.plan_patterns.specs.declared.runs.Run.{Run}
 use Rattle.plan_patterns.specs.Grouping.{PatternOf, runs_at}
-use Rattle.plan_rides.specs.Cutoffs.{AreLastDepartures, IsEarlyRide, cutoff_by, is_early, is_enough, is_span}
+use Rattle.plan_rides.specs.Cutoffs.{AreLastDepartures, CutoffOf, cutoff_by, is_early, is_enough, is_span}
 use Rattle.plan_rides.specs.Departures.{run_by}
 use Rattle.plan_rides.specs.InTime.{IsWithinWindow, deadline, next_in_time}
+use Rattle.plan_rides.specs.Scopes.{IsInScope}
+use Rattle.plan_rides.specs.declared.scope.Scope.{Scope}
 
 -- ---- what the spans of stops are
 
@@ -83,6 +86,18 @@ pub record AreSpans (feed : FeedRows) (query : Query) (lists : SpanLists) : Type
   pub boards : (more : ℕ) → AreBoardSpans feed query (stands_of lists more) (boards_of lists more)
   pub rides : (more : ℕ) → IsOneMoreSpan feed query (stands_of lists more) (stands_of lists (more + 1))
 
+-- ---- for which queries they are
+
+-- the query is of the scope, and its window is no longer than so many seconds
+pub record FitsScope (scope : Scope) (window : ℕ) (query : Query) : Type 0 where
+  pub inside : IsInScope scope query
+  pub few : query.window ≤ window
+
+-- they are those of each such query that goes to this stop, whenever it departs
+abbrev pub AreSpansFor : FeedRows → Scope → StopId → ℕ → SpanLists → Type 0
+AreSpansFor feed scope to window lists =
+    (query : Query) → FitsScope scope window query → query.to ≡ to → AreSpans feed query lists
+
 -- ---- how they are found
 
 -- the time of day is no later than so many seconds of the day; none isn't
@@ -99,20 +114,27 @@ IsEndFrom spans calls k end =
 
 -- the new spans are at most those before, and at the call's stop, where riders may board, at most the seconds from
 -- there until then, where these lie within the window
-pub record PutsBoard (query : Query) (end : Option ℕ) (call : Call) (old new : List (Option Secs)) : Type 0 where
+pub record PutsBoard (window : ℕ) (end : Option ℕ) (call : Call) (old new : List (Option Secs)) : Type 0 where
   pub many : length new ≡ length old
   pub still : (stop : ℕ) (secs : ℤ) → is_enough old stop secs ≡ true → is_enough new stop secs ≡ true
   pub here : (until : ℤ) → call.pickup ≡ true → is_end_by end until ≡ true → pos call.departure ≤ℤ until →
-      (until -ℤ pos call.departure) ≤ℤ pos query.window → is_enough new call.stop.0 (until -ℤ pos call.departure) ≡ true
+      (until -ℤ pos call.departure) ≤ℤ pos window → is_enough new call.stop.0 (until -ℤ pos call.departure) ≡ true
 
--- the new spans are at most those before; by whatever moment of the window a journey is to end, no ride of this
--- part that arrives early enough departs too late by them
-pub record AddsBoards (feed : FeedRows) (query : Query) (spans : List (Option Secs)) (Part : Ride → Type 0)
+-- the ride goes so, gets somewhere early enough, and departs at most so many seconds before the journey is to end
+pub record IsTimelyRide (feed : FeedRows) (window : ℕ) (latest : CutoffOf) (ride : Ride) (facts : RideFacts) :
+    Type 0 where
+  pub is : ride_facts feed ride ≡ Some facts
+  pub early : is_early latest facts.to.0 facts.arrival.0 ≡ true
+  pub few : (latest.until -ℤ facts.departure.0) ≤ℤ pos window
+
+-- the new spans are at most those before; by whatever moment a journey is to end, no ride of this part that departs within
+-- the window before it and arrives early enough departs too late by them
+pub record AddsBoards (feed : FeedRows) (window : ℕ) (spans : List (Option Secs)) (Part : Ride → Type 0)
     (old new : List (Option Secs)) : Type 0 where
   pub many : length new ≡ length old
   pub still : (stop : ℕ) (secs : ℤ) → is_enough old stop secs ≡ true → is_enough new stop secs ≡ true
-  pub all : (until : ℤ) → until ≤ℤ deadline query → (ride : Ride) (facts : RideFacts) →
-      IsEarlyRide feed query (cutoff_by spans until) ride facts → Part ride →
+  pub all : (until : ℤ) (ride : Ride) (facts : RideFacts) →
+      IsTimelyRide feed window (cutoff_by spans until) ride facts → Part ride →
       is_early (cutoff_by new until) facts.from.0 facts.departure.0 ≡ true
 
 -- the ride is of this trip
@@ -142,25 +164,25 @@ abbrev pub IsOfPatterns : List PatternOf → ℕ → Ride → Type 0
 IsOfPatterns patterns k ride = (i : ℕ) × (i < k) × Contains (runs_at patterns i) (run_by ride)
 
 -- one has seconds enough to walk along one of the first n walks to where it leads and to go on from there
-abbrev pub HasWalkSpans : Query → List (Option Secs) → List Step → ℕ → Option Secs → Type 0
-HasWalkSpans query boards walks n span =
-    (k : ℕ) (step : Step) (secs : ℤ) → k < n → slice_get walks k ≡ Some step → secs ≤ℤ pos query.window →
+abbrev pub HasWalkSpans : ℕ → List (Option Secs) → List Step → ℕ → Option Secs → Type 0
+HasWalkSpans window boards walks n span =
+    (k : ℕ) (step : Step) (secs : ℤ) → k < n → slice_get walks k ≡ Some step → secs ≤ℤ pos window →
     is_span (unwrap_or (slice_get boards step.to.0) None) (secs -ℤ pos step.seconds.0) ≡ true → is_span span secs ≡ true
 
 -- at the stop the new span is at most the one before, and each walk out of it with what follows
-pub record IsSpanBefore (feed : FeedRows) (query : Query) (boards : List (Option Secs)) (stop : StopId)
+pub record IsSpanBefore (feed : FeedRows) (window : ℕ) (boards : List (Option Secs)) (stop : StopId)
     (before new : Option Secs) : Type 0 where
   pub own : (secs : ℤ) → is_span before secs ≡ true → is_span new secs ≡ true
-  pub walks : HasWalkSpans query boards (out_of feed stop) (length (out_of feed stop)) new
+  pub walks : HasWalkSpans window boards (out_of feed stop) (length (out_of feed stop)) new
 
 -- so it is at each of the first n stops
-abbrev pub AreSpansBefore : FeedRows → Query → List (Option Secs) → List (Option Secs) → ℕ → List (Option Secs) → Type 0
-AreSpansBefore feed query spans boards n new =
+abbrev pub AreSpansBefore : FeedRows → ℕ → List (Option Secs) → List (Option Secs) → ℕ → List (Option Secs) → Type 0
+AreSpansBefore feed window spans boards n new =
     (stop : ℕ) → stop < n →
-    IsSpanBefore feed query boards (record { 0 = stop }) (unwrap_or (slice_get spans stop) None)
+    IsSpanBefore feed window boards (record { 0 = stop }) (unwrap_or (slice_get spans stop) None)
     (unwrap_or (slice_get new stop) None)
 
 -- so it is at each stop, and there are as many as before
-pub record AreAllBefore (feed : FeedRows) (query : Query) (spans boards new : List (Option Secs)) : Type 0 where
+pub record AreAllBefore (feed : FeedRows) (window : ℕ) (spans boards new : List (Option Secs)) : Type 0 where
   pub many : length new ≡ length spans
-  pub all : AreSpansBefore feed query spans boards (length spans) new
+  pub all : AreSpansBefore feed window spans boards (length spans) new

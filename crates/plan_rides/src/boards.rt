@@ -3,12 +3,10 @@ ghost use Rattle.std.specs.Prelude.{◌≡◌, ◌<◌, ◌≤◌, ◌-ℤ◌, �
 ghost use Rattle.plan_patterns.specs.Grouping.{runs_at};
 ghost use Rattle.plan_rides.specs.Cutoffs.{is_enough};
 ghost use Rattle.plan_rides.specs.Departures.{IsRunOf};
-ghost use Rattle.plan_rides.specs.InTime.{IsUsualQuery};
 ghost use Rattle.plan_rides.specs.Spans.{AddsBoards, FollowsOwn, IsOfPatterns, IsOfRuns, IsOfTrip, PutsBoard, is_end_by};
-ghost use Rattle.transit_base.specs.Limits.{most_time};
 
 use crate::spans::{shorter, span_of};
-use feed_rows::{Call, Query};
+use feed_rows::Call;
 use feed_timetable::Timetable;
 use plan_patterns::{Patterns, Run};
 use transit_base::{Secs, TripId};
@@ -39,9 +37,9 @@ fn sooner(one: Option<u64>, other: Option<u64>) -> Option<u64>
 }
 
 // Has the span at the call's stop be at most the seconds from there until then, where riders may board.
-fn put_board(query: &Query, end: Option<u64>, call: &Call, boards: &mut [Option<Secs>])
+fn put_board(window: u32, end: Option<u64>, call: &Call, boards: &mut [Option<Secs>])
     requires { call.now.stop.0 < length boards.old }
-    ensures { PutsBoard query.now end call.now boards.old boards.new }
+    ensures { PutsBoard window end call.now boards.old boards.new }
 {
     if !call.pickup {
         return;
@@ -50,14 +48,14 @@ fn put_board(query: &Query, end: Option<u64>, call: &Call, boards: &mut [Option<
         return;
     };
     let stop = call.stop.0 as usize;
-    let span = span_of(query, end.saturating_sub(u64::from(call.departure)));
+    let span = span_of(window, end.saturating_sub(u64::from(call.departure)));
     boards[stop] = shorter(boards[stop], span);
 }
 
 // Has the spans be at most those of the trip's rides.
 fn add_trip(
     timetable: &Timetable,
-    query: &Query,
+    window: u32,
     spans: &[Option<Secs>],
     trip: TripId,
     boards: &mut [Option<Secs>],
@@ -65,14 +63,14 @@ fn add_trip(
     requires trip { trip.0 < length timetable.now.trips }
     requires spans { length spans.now ≡ length timetable.now.stops }
     requires boards { length boards.old ≡ length timetable.now.stops }
-    ensures { AddsBoards timetable.now query.now spans.now (IsOfTrip trip) boards.old boards.new }
+    ensures { AddsBoards timetable.now window spans.now (IsOfTrip trip) boards.old boards.new }
 {
     let _feed = timetable.feed();
     let calls = timetable.calls_of(trip);
     let mut end = None;
     for k in (0..calls.len()).rev() {
         let call = calls.at(k);
-        put_board(query, end, &call, boards);
+        put_board(window, end, &call, boards);
         end = sooner(end, end_at(spans, &call));
     }
 }
@@ -88,7 +86,7 @@ fn begins_trip(runs: &[Run], k: usize) -> bool
 // The same of the trips of all these runs, each of whose runs stand together: it is looked at once.
 fn add_runs(
     timetable: &Timetable,
-    query: &Query,
+    window: u32,
     spans: &[Option<Secs>],
     runs: &[Run],
     boards: &mut [Option<Secs>],
@@ -96,11 +94,11 @@ fn add_runs(
     requires runs { All (IsRunOf timetable.now) runs.now }
     requires spans { length spans.now ≡ length timetable.now.stops }
     requires boards { length boards.old ≡ length timetable.now.stops }
-    ensures { AddsBoards timetable.now query.now spans.now (IsOfRuns runs.now (length runs.now)) boards.old boards.new }
+    ensures { AddsBoards timetable.now window spans.now (IsOfRuns runs.now (length runs.now)) boards.old boards.new }
 {
     for k in 0..runs.len() {
         if begins_trip(runs, k) {
-            add_trip(timetable, query, spans, runs[k].trip, boards);
+            add_trip(timetable, window, spans, runs[k].trip, boards);
         }
     }
 }
@@ -109,16 +107,16 @@ fn add_runs(
 pub fn add_patterns<'f>(
     timetable: &Timetable<'f>,
     patterns: &Patterns<'f>,
-    query: &Query,
+    window: u32,
     spans: &[Option<Secs>],
     boards: &mut [Option<Secs>],
 )
     requires runs { (p : ℕ) → All (IsRunOf timetable.now) (runs_at patterns.now.patterns p) }
     requires spans { length spans.now ≡ length timetable.now.stops }
     requires boards { length boards.old ≡ length timetable.now.stops }
-    ensures { AddsBoards timetable.now query.now spans.now (IsOfPatterns patterns.now.patterns (length patterns.now.patterns)) boards.old boards.new }
+    ensures { AddsBoards timetable.now window spans.now (IsOfPatterns patterns.now.patterns (length patterns.now.patterns)) boards.old boards.new }
 {
     for pattern in 0..patterns.count() {
-        add_runs(timetable, query, spans, patterns.runs(pattern), boards);
+        add_runs(timetable, window, spans, patterns.runs(pattern), boards);
     }
 }

@@ -1,5 +1,5 @@
 //! The rides of a query by the runs that are held.
-ghost use Rattle.std.specs.Prelude.{◌≡◌, ◌<◌, All, IfOk, length, option_map};
+ghost use Rattle.std.specs.Prelude.{◌≡◌, All, IfOk, option_map};
 ghost use Rattle.feed_rows.specs.JourneyStands.{first_stand};
 ghost use Rattle.feed_rows.specs.SoundFeed.{IsSoundFeed};
 ghost use Rattle.feed_timetable.specs.Standings.{stand_of};
@@ -7,43 +7,48 @@ ghost use Rattle.plan_rides.specs.Asked.{asked, arrival_in_time};
 ghost use Rattle.plan_rides.specs.Boarding.{MayRide};
 ghost use Rattle.plan_rides.specs.InTime.{IsUsualQuery, IsWithinWindow, HasCaught, IsRight};
 ghost use Rattle.plan_rides.specs.Scopes.{IsInScope};
-ghost use Rattle.plan_rides.specs.Spans.{AreBoardSpans, AreEndSpans, IsOneMoreSpan};
+ghost use Rattle.plan_rides.specs.Spans.{AreSpans};
 
-use crate::boards::add_patterns;
 use crate::caught::CaughtRide;
 use crate::held::SpanRuns;
 use crate::positions::Positions;
 use crate::scope::deadline;
-use crate::spans::{end_span, span_from};
+use crate::spans::Spans;
 use feed_rows::Query;
 use feed_timetable::{Standing, Timetable};
 use std::alloc::{AllocError, Global};
 use std::marker::Model;
-use transit_base::{Moment, Secs, StopId};
+use transit_base::{Moment, StopId};
 
 /// The rides of a query, by where they can be caught: by the patterns of the runs that are held for it.
 /// Contracts see it as the feed and the query.
 pub struct Rides<'s> {
+    runs: &'s SpanRuns<'s>,
     positions: Positions<'s>,
 }
 
 // Written out, so that what holds one needn't look into it to let go of it.
 impl<'s> Drop for Rides<'s> {
     fn drop(self) {
-        let Rides { positions: _ } = self;
+        let Rides {
+            runs: _,
+            positions: _,
+        } = self;
     }
 }
 
 impl<'s> Model for Rides<'s> {
+    ghost use Rattle.std.specs.Prelude.{◌≡◌};
     ghost use Rattle.feed_rows.specs.SoundFeed.{IsSoundFeed};
     ghost use Rattle.plan_rides.specs.Asked.{Asked, asked};
     ghost use Rattle.plan_rides.specs.InTime.{IsUsualQuery};
+    ghost use Rattle.plan_rides.specs.Scopes.{IsInScope};
 
     ghost Value = { Asked };
 
     ghost view = { λ s. asked s.positions.feed s.positions.query };
 
-    ghost invariant = { λ s. IsSoundFeed s.positions.feed × IsUsualQuery s.positions.query };
+    ghost invariant = { λ s. IsSoundFeed s.positions.feed × IsUsualQuery s.positions.query × (s.runs.now.feed ≡ s.positions.feed) × IsInScope s.runs.now.scope s.positions.query };
 }
 
 impl<'s> Rides<'s> {
@@ -54,6 +59,7 @@ impl<'s> Rides<'s> {
         ensures { result ≡ asked runs.now.feed query.now }
     {
         Rides {
+            runs,
             positions: Positions {
                 timetable: runs.timetable,
                 query,
@@ -69,6 +75,14 @@ impl<'s> Rides<'s> {
         ensures { result.now ≡ self.now.feed }
     {
         self.positions.timetable
+    }
+
+    // The runs that are held for it.
+    fn runs(&self) -> &'s SpanRuns<'s>
+        ensures feed { result.now.feed ≡ self.now.feed }
+        ensures within { IsInScope result.now.scope self.now.query }
+    {
+        self.runs
     }
 
     /// The query.
@@ -115,78 +129,16 @@ impl<'s> Rides<'s> {
         &self.positions
     }
 
-    /// The least seconds from each stop after a ride to a journey's end without a further one.
+    /// For each number of further rides, the least seconds to a journey's end.
     ///
     /// # Errors
     /// Want of memory.
-    pub fn end_spans(&self, alloc: Global) -> Result<Vec<Option<Secs>>, AllocError>
-        ensures many { IfOk result (λ spans. length spans.items ≡ length self.now.feed.stops) }
-        ensures ends { IfOk result (λ spans. AreEndSpans self.now.feed self.now.query spans.items) }
+    pub fn spans(&self, alloc: Global) -> Result<Spans, AllocError>
+        ensures { IfOk result (AreSpans self.now.feed self.now.query) }
     {
-        let positions = &self.positions;
-        let timetable = positions.timetable;
-        let query = positions.query;
-        let stops = timetable.feed().stops.items().len();
-        let mut spans = Vec::with_capacity(alloc, stops)?;
-        for stop in 0..stops {
-            spans.push(end_span(timetable, query, StopId(stop as u32)))?;
-        }
-        Ok(spans)
-    }
-
-    /// The least seconds from each stop where a ride boards to a journey's end, by these spans from where it alights.
-    ///
-    /// # Errors
-    /// Want of memory.
-    pub fn board_spans(
-        &self,
-        alloc: Global,
-        spans: &[Option<Secs>],
-    ) -> Result<Vec<Option<Secs>>, AllocError>
-        requires rides { 1 < self.now.query.rides }
-        requires many { length spans.now ≡ length self.now.feed.stops }
-        ensures many { IfOk result (λ boards. length boards.items ≡ length self.now.feed.stops) }
-        ensures boards { IfOk result (λ boards. AreBoardSpans self.now.feed self.now.query spans.now boards.items) }
-    {
-        let positions = &self.positions;
-        let stops = positions.timetable.feed().stops.items().len();
-        let mut boards = vec![in alloc; None; stops]?;
-        add_patterns(
-            positions.timetable,
-            positions.patterns,
-            positions.query,
-            spans,
-            &mut boards,
-        );
-        Ok(boards)
-    }
-
-    /// The least seconds from each stop after a ride, where they are these, or one more ride is taken first: by these spans
-    /// from where it boards.
-    ///
-    /// # Errors
-    /// Want of memory.
-    pub fn spans_before(
-        &self,
-        alloc: Global,
-        spans: &[Option<Secs>],
-        boards: &[Option<Secs>],
-    ) -> Result<Vec<Option<Secs>>, AllocError>
-        requires spans { length spans.now ≡ length self.now.feed.stops }
-        requires boards { length boards.now ≡ length self.now.feed.stops }
-        requires serve { AreBoardSpans self.now.feed self.now.query spans.now boards.now }
-        ensures many { IfOk result (λ new. length new.items ≡ length self.now.feed.stops) }
-        ensures more { IfOk result (λ new. IsOneMoreSpan self.now.feed self.now.query spans.now new.items) }
-    {
-        let positions = &self.positions;
-        let timetable = positions.timetable;
-        let query = positions.query;
-        let mut new = Vec::with_capacity(alloc, spans.len())?;
-        for stop in 0..spans.len() {
-            let span = span_from(timetable, query, StopId(stop as u32), spans[stop], boards);
-            new.push(span)?;
-        }
-        Ok(new)
+        let query = self.query();
+        let runs = self.runs();
+        Spans::of(alloc, runs, query.to, query.window, query.rides)
     }
 
     /// The rides that are caught from where one stands and end within the window.

@@ -1,24 +1,22 @@
 //! The least seconds from stops to a journey's end, whatever the moment.
 ghost use Rattle.std.specs.Prelude.{◌≡◌, ◌≤◌, ◌<◌, ◌-ℤ◌, ◌≤ℤ◌, ℕ, ℤ, pos, true, length, slice_get, unwrap_or, IfOk, OnOk, Some, None, []};
-ghost use Rattle.feed_rows.specs.Journeys.{egress, stands_for};
+ghost use Rattle.feed_rows.specs.declared.journeys.Query.{Query};
+ghost use Rattle.feed_rows.specs.Journeys.{egress};
 ghost use Rattle.plan_rides.specs.Cutoffs.{is_span};
-ghost use Rattle.plan_rides.specs.InTime.{IsUsualQuery};
-ghost use Rattle.plan_rides.specs.Spans.{AreSpans, IsEndSpan, IsSpanBefore, boards_of, no_spans, stands_of, with_spans};
+ghost use Rattle.plan_rides.specs.Spans.{AreBoardSpans, AreEndSpans, AreSpansFor, IsEndSpan, IsOneMoreSpan, IsSpanBefore, boards_of, no_spans, stands_of, with_spans};
 
-use crate::rides::Rides;
-use crate::scope::deadline;
-use feed_rows::Query;
-use feed_timetable::{Standing, Timetable};
+use crate::held::SpanRuns;
+use feed_timetable::Timetable;
 use item_groups::Groups;
 use std::alloc::{AllocError, Global};
 use std::marker::Model;
 use transit_base::{Secs, StopId};
 
-/// So many seconds as a span; none where they are more than the query's window, since nothing that ends in time takes more.
-pub fn span_of(query: &Query, seconds: u64) -> Option<Secs>
-    ensures { (secs : ℤ) → pos seconds ≤ℤ secs → secs ≤ℤ pos query.now.window → is_span result secs ≡ true }
+/// So many seconds as a span; none where they are more than the window, since nothing that ends in time takes more.
+pub fn span_of(window: u32, seconds: u64) -> Option<Secs>
+    ensures { (secs : ℤ) → pos seconds ≤ℤ secs → secs ≤ℤ pos window → is_span result secs ≡ true }
 {
-    if seconds > u64::from(query.window) {
+    if seconds > u64::from(window) {
         return None;
     }
     Some(Secs(seconds as u32))
@@ -36,34 +34,48 @@ pub fn shorter(one: Option<Secs>, other: Option<Secs>) -> Option<Secs>
     }
 }
 
-// The span from the stop to this last stop, where a journey ends there without a further ride.
-fn span_to(timetable: &Timetable, query: &Query, stop: StopId, last: StopId) -> Option<Secs>
-    requires { IsUsualQuery query.now }
-    ensures { (seconds : ℕ) → egress timetable.now query.now stop last ≡ Some seconds → seconds ≤ query.now.window → is_span result (pos seconds) ≡ true }
+// The span from the stop to this last stop, where a journey to the destination ends there without a further ride.
+fn span_to(
+    timetable: &Timetable,
+    to: StopId,
+    window: u32,
+    stop: StopId,
+    last: StopId,
+) -> Option<Secs>
+    ensures { (query : Query) → query.to ≡ to → (seconds : ℕ) → egress timetable.now query stop last ≡ Some seconds → seconds ≤ window → is_span result (pos seconds) ≡ true }
 {
-    let standing = Standing {
-        stop,
-        at: query.departure,
-        fresh: false,
-    };
-    let end = timetable.end_arrival(query, standing, last)?;
-    if end.0 > deadline(query).0 {
-        return None;
-    }
-    Some(Secs((end.0 - query.departure.0) as u32))
+    let seconds = timetable.egress(to, stop, last)?;
+    span_of(window, u64::from(seconds))
 }
 
-/// The span from the stop after a ride, where a journey ends without a further one.
-pub fn end_span(timetable: &Timetable, query: &Query, stop: StopId) -> Option<Secs>
-    requires { IsUsualQuery query.now }
-    ensures { IsEndSpan timetable.now query.now stop result }
+// The span from the stop after a ride, where a journey to the destination ends without a further one.
+fn end_span(timetable: &Timetable, to: StopId, window: u32, stop: StopId) -> Option<Secs>
+    ensures { (query : Query) → query.to ≡ to → query.window ≤ window → IsEndSpan timetable.now query stop result }
 {
-    let lasts = timetable.members(query.to);
+    let lasts = timetable.members(to);
     let mut span = None;
     for k in 0..lasts.len() {
-        span = shorter(span, span_to(timetable, query, stop, lasts[k]));
+        span = shorter(span, span_to(timetable, to, window, stop, lasts[k]));
     }
     span
+}
+
+// Those from each stop.
+fn end_spans(
+    alloc: Global,
+    timetable: &Timetable,
+    to: StopId,
+    window: u32,
+) -> Result<Vec<Option<Secs>>, AllocError>
+    ensures many { IfOk result (λ spans. length spans.items ≡ length timetable.now.stops) }
+    ensures ends { IfOk result (λ spans. (query : Query) → query.to ≡ to → query.window ≤ window → AreEndSpans timetable.now query spans.items) }
+{
+    let stops = timetable.feed().stops.items().len();
+    let mut spans = Vec::with_capacity(alloc, stops)?;
+    for stop in 0..stops {
+        spans.push(end_span(timetable, to, window, StopId(stop as u32)))?;
+    }
+    Ok(spans)
 }
 
 // The span at the stop; none past the last stop.
@@ -77,22 +89,22 @@ fn span_at(spans: &[Option<Secs>], stop: StopId) -> Option<Secs>
 }
 
 // The span behind a walk.
-fn behind_walk(query: &Query, span: Option<Secs>, walk: Secs) -> Option<Secs>
-    ensures { (secs : ℤ) → secs ≤ℤ pos query.now.window → is_span span (secs -ℤ pos walk.0) ≡ true → is_span result secs ≡ true }
+fn behind_walk(window: u32, span: Option<Secs>, walk: Secs) -> Option<Secs>
+    ensures { (secs : ℤ) → secs ≤ℤ pos window → is_span span (secs -ℤ pos walk.0) ≡ true → is_span result secs ≡ true }
 {
     let span = span?;
-    span_of(query, u64::from(walk.0) + u64::from(span.0))
+    span_of(window, u64::from(walk.0) + u64::from(span.0))
 }
 
-/// The span from the stop, where it is this, or one walks and takes one more ride first: by these spans from where it boards.
-pub fn span_from(
+// The span from the stop, where it is this, or one walks and takes one more ride first: by these spans from where it boards.
+fn span_from(
     timetable: &Timetable,
-    query: &Query,
+    window: u32,
     stop: StopId,
     own: Option<Secs>,
     boards: &[Option<Secs>],
 ) -> Option<Secs>
-    ensures { IsSpanBefore timetable.now query.now boards.now stop own result }
+    ensures { IsSpanBefore timetable.now window boards.now stop own result }
 {
     let walks = timetable.walks_from(stop);
     let mut span = own;
@@ -100,10 +112,32 @@ pub fn span_from(
         let step = walks[k];
         span = shorter(
             span,
-            behind_walk(query, span_at(boards, step.to), step.seconds),
+            behind_walk(window, span_at(boards, step.to), step.seconds),
         );
     }
     span
+}
+
+// The spans from each stop after a ride, where they are these, or one more ride is taken first.
+fn spans_before(
+    alloc: Global,
+    timetable: &Timetable,
+    window: u32,
+    spans: &[Option<Secs>],
+    boards: &[Option<Secs>],
+) -> Result<Vec<Option<Secs>>, AllocError>
+    requires spans { length spans.now ≡ length timetable.now.stops }
+    requires boards { length boards.now ≡ length timetable.now.stops }
+    ensures many { IfOk result (λ new. length new.items ≡ length timetable.now.stops) }
+    ensures more { IfOk result (λ new. (query : Query) → query.window ≤ window → AreBoardSpans timetable.now query spans.now boards.now → IsOneMoreSpan timetable.now query spans.now new.items) }
+{
+    let _feed = timetable.feed();
+    let mut new = Vec::with_capacity(alloc, spans.len())?;
+    for stop in 0..spans.len() {
+        let span = span_from(timetable, window, StopId(stop as u32), spans[stop], boards);
+        new.push(span)?;
+    }
+    Ok(new)
 }
 
 /// For each number of further rides, the least seconds to a journey's end from each stop where one stands after a ride, and
@@ -142,21 +176,34 @@ impl Spans {
         }
     }
 
-    /// Those of the rides where fewer than so many may follow. Where one boards before the most that may follow each moment is
-    /// early enough.
+    /// Those for all queries of the scope of the runs that go to this stop within so many seconds, whenever they depart, where
+    /// fewer rides than so many may follow. Where one boards before the most that may follow each moment is early enough.
     ///
     /// # Errors
     /// Want of memory.
-    pub fn of(alloc: Global, rides: &Rides, levels: u8) -> Result<Spans, AllocError>
-        requires { levels ≤ rides.now.query.rides }
-        ensures { IfOk result (AreSpans rides.now.feed rides.now.query) }
+    pub fn of(
+        alloc: Global,
+        runs: &SpanRuns,
+        to: StopId,
+        window: u32,
+        levels: u8,
+    ) -> Result<Spans, AllocError>
+        requires { levels ≤ runs.now.scope.rides }
+        ensures { IfOk result (AreSpansFor runs.now.feed runs.now.scope to window) }
     {
+        let timetable = runs.timetable();
         let mut spans = Spans::none(alloc);
-        let mut stands = rides.end_spans(alloc)?;
+        let mut stands = end_spans(alloc, timetable, to, window)?;
         for _more in 1..levels {
-            let boards = rides.board_spans(alloc, stands.as_slice())?;
+            let boards = runs.board_spans(alloc, window, stands.as_slice())?;
             spans.push(stands.as_slice(), boards.as_slice())?;
-            stands = rides.spans_before(alloc, stands.as_slice(), boards.as_slice())?;
+            stands = spans_before(
+                alloc,
+                timetable,
+                window,
+                stands.as_slice(),
+                boards.as_slice(),
+            )?;
         }
         spans.push(stands.as_slice(), &[])?;
         Ok(spans)

@@ -260,7 +260,7 @@ spreads_by task finals source caught right moves n old new are all spreads = rec
       let step = by.1 in
       let same : step.facts ≡ caught.facts = same_Some _ _ (sym step.rides.is ∙ right.facts) in
       let less = are.enough.enough by.0
-      (subst (λ (f : RideFacts). move_after task.feed task.query.rider from.state source.label.now.held.0 (leg_facts task.feed f) by.0 ≡ Some by.0) same step.pays) in
+      (subst (λ (f : RideFacts). move_after task.feed task.query.buyer from.state source.label.now.held.0 (leg_facts task.feed f) by.0 ≡ Some by.0) same step.pays) in
       let at = slice_get-Contains moves less.0 less.1 in
       let lt = slice_get_within moves at.0 less.0 at.1 in
       below_lesser task finals new from caught.facts less.0 by.0 b (step.next ∙ ap (λ (f : RideFacts). facts_after from f by.0) same) less.2

@@ -7,9 +7,9 @@ use Rattle.std.proofs.lemmas.Option.{cond_some, same_Some, slice_get-get_or, sli
 use Rattle.transit_base.specs.declared.moments.Secs.{Secs}
 use Rattle.transit_base.specs.declared.numbers.LegGroupId.{LegGroupId}
 use Rattle.transit_base.specs.declared.numbers.NetworkId.{NetworkId}
-use Rattle.transit_base.specs.declared.numbers.RiderId.{RiderId}
 use Rattle.transit_base.specs.declared.numbers.StopId.{StopId}
 use Rattle.transit_base.specs.declared.numbers.TripId.{TripId}
+use Rattle.feed_rows.specs.declared.journeys.Buyer.{Buyer}
 use Rattle.feed_rows.specs.declared.fares.ChangeChoice.{ChangeChoice}
 use Rattle.feed_rows.specs.declared.journeys.LegFacts.{LegFacts}
 use Rattle.feed_rows.specs.declared.journeys.Query.{Query}
@@ -128,14 +128,14 @@ pub record IsMoveRule (feed : FeedRows) (leg : LegFacts) (move : Move) : Type 0 
   pub of_group : rule.group ≡ move.state.group
 
 -- the rule that is chosen for a leg is selected by it, and the leg has its group
-leg_rule : (feed : FeedRows) (rider : Option RiderId) (leg : LegFacts) (move : Move) (chosen : FareLeg) →
-    chosen_leg feed leg (leg_taken move) ≡ Some chosen → is_leg_choice feed rider leg (leg_taken move) ≡ true →
+leg_rule : (feed : FeedRows) (buyer : Buyer) (leg : LegFacts) (move : Move) (chosen : FareLeg) →
+    chosen_leg feed leg (leg_taken move) ≡ Some chosen → is_leg_choice feed buyer leg (leg_taken move) ≡ true →
     chosen.group ≡ move.state.group → IsMoveRule feed leg move
 unfolding is_leg_choice
-leg_rule feed rider leg move chosen is right group =
+leg_rule feed buyer leg move chosen is right group =
     let rule =
     filled_and-true (slice_get feed.leg_rules move.rule.0)
-    (λ r. is_selected_rule feed leg r && at_and feed.products move.product.0 (is_open r.product rider)) right in
+    (λ r. is_selected_rule feed leg r && at_and feed.products move.product.0 (is_open r.product buyer)) right in
     let both = and_parts (is_selected_rule feed leg rule.value) _ rule.passes in
     let made : Some (record { group = rule.value.group; departure = leg.departure; arrival = leg.arrival }) ≡
     Some chosen =
@@ -166,27 +166,27 @@ next_group feed state next place = by (same_group state.group next.group && is_s
     by false is = refl
 
 -- each move has its rule
-pub move_rule : (feed : FeedRows) (rider : Option RiderId) (state : Option FareState) (held : ℤ) (leg : LegFacts)
-    (move : Move) → move_after feed rider state held leg move ≡ Some move → IsMoveRule feed leg move
+pub move_rule : (feed : FeedRows) (buyer : Buyer) (state : Option FareState) (held : ℤ) (leg : LegFacts)
+    (move : Move) → move_after feed buyer state held leg move ≡ Some move → IsMoveRule feed leg move
 unfolding move_of_first move_of_next
-move_rule feed rider None held leg move is =
+move_rule feed buyer None held leg move is =
     let taken = chain_gives
-    (λ first. when (is_leg_choice feed rider leg (leg_taken move) && is_none (place_taken move) && is_whole move)
+    (λ first. when (is_leg_choice feed buyer leg (leg_taken move) && is_none (place_taken move) && is_whole move)
     (first_move feed first move)) (chosen_leg feed leg (leg_taken move)) move is in
     let found = cond_some _ _ _ taken.gives in
     let both = and_parts _ (is_whole move) found.0 in
-    leg_rule feed rider leg move taken.value taken.is
-    (and_parts (is_leg_choice feed rider leg (leg_taken move)) _ both.0).0
+    leg_rule feed buyer leg move taken.value taken.is
+    (and_parts (is_leg_choice feed buyer leg (leg_taken move)) _ both.0).0
     (ap (λ (q : Move). q.state.group) found.1)
-move_rule feed rider (Some state) held leg move is =
+move_rule feed buyer (Some state) held leg move is =
     let taken = chain_gives
-    (λ next. when (is_leg_choice feed rider leg (leg_taken move)
-    && is_place_after feed rider (asked_after state next) (place_taken move) && is_whole move)
+    (λ next. when (is_leg_choice feed buyer leg (leg_taken move)
+    && is_place_after feed buyer (asked_after state next) (place_taken move) && is_whole move)
     (next_move feed state held next move)) (chosen_leg feed leg (leg_taken move)) move is in
     let found = cond_some _ _ _ taken.gives in
     let both = and_parts _ (is_whole move) found.0 in
-    leg_rule feed rider leg move taken.value taken.is
-    (and_parts (is_leg_choice feed rider leg (leg_taken move)) _ both.0).0
+    leg_rule feed buyer leg move taken.value taken.is
+    (and_parts (is_leg_choice feed buyer leg (leg_taken move)) _ both.0).0
     (sym (next_group feed state taken.value (place_taken move)) ∙ ap (λ (q : Move). q.state.group) found.1)
 
 -- a rule that a leg selects names no network, or that of the leg
@@ -241,7 +241,7 @@ last_moves feed query lists networks lasts sound spans marked groups a b ride mo
     let ended = end_is ends b.stop _ early in
     let here = ride_marked feed ends networks ride step.facts sound marked step.rides.is
     (subst (IsEnd ends) (ap (λ (x : LabelFacts). x.stop) step.next) ended) in
-    let r = move_rule feed query.rider a.state a.held (leg_facts feed step.facts) move step.pays in
+    let r = move_rule feed query.buyer a.state a.held (leg_facts feed step.facts) move step.pays in
     subst (λ (g : Option LegGroupId). IsMarkedAt lasts (place_of g)) r.of_group
     (groups r.rule (contained feed.leg_rules move.rule.0 r.rule r.is)
     (λ network named. subst (λ (o : Option NetworkId). IsMarkedAt networks (network_place o))

@@ -11,7 +11,8 @@ use Rattle.fare_automaton.specs.Known.{KnownPicks}
 use Rattle.leg_kinds.specs.Kinds.{IsOfKind}
 use Rattle.plan_rides.specs.Reached.{Kept, none_kept}
 use Rattle.plan_rides.specs.declared.caught.CaughtRide.{CaughtRide}
-use Rattle.plan_rounds.specs.Legs.{AreKinds, FitKinds, HasKinds, StayKnown}
+use Rattle.ride_kinds.specs.RideKinds.{StayKnown}
+use Rattle.plan_rounds.specs.Legs.{AreKinds, FitKinds, HasKinds}
 use Rattle.plan_rounds.specs.declared.legs.KeptLegs.{KeptLegs}
 
 module _ (feed : FeedRows) (rides : List CaughtRide) where

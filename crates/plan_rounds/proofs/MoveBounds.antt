@@ -5,7 +5,7 @@ use Rattle.std.specs.Option.{option_map_or}
 use Rattle.std.proofs.lemmas.Int.{ints}
 use Rattle.std.proofs.lemmas.Option.{cond_some}
 use Rattle.transit_base.specs.declared.numbers.ProductRowId.{ProductRowId}
-use Rattle.transit_base.specs.declared.numbers.RiderId.{RiderId}
+use Rattle.feed_rows.specs.declared.journeys.Buyer.{Buyer}
 use Rattle.feed_rows.specs.declared.fares.ChangeChoice.{ChangeChoice}
 use Rattle.feed_rows.specs.declared.journeys.LegFacts.{LegFacts}
 use Rattle.feed_rows.specs.declared.rows.ProductRow.{ProductRow}
@@ -15,8 +15,7 @@ use Rattle.feed_rows.specs.FeedRows.{FeedRows}
 use Rattle.feed_rows.specs.SoundFeed.{IsSoundFeed}
 use Rattle.feed_rows.specs.FareChoices.{chosen_leg}
 use Rattle.feed_rows.specs.FareSums.{amount_of}
-use Rattle.feed_rows.specs.FareStands.{place_kind, place_charge, frees_first, frees_next}
-use Rattle.feed_rows.specs.FareSteps.{leg_taken, place_taken, move_of_first, move_of_next, move_after}
+use Rattle.feed_rows.specs.FareSteps.{place_kind, place_charge, frees_first, frees_next, leg_taken, place_taken, move_of_first, move_of_next, move_after}
 use Rattle.plain_laws.proofs.Laws.{All-slice_get, chain_gives}
 use Rattle.round_labels.specs.Labels.{IsSmall}
 
@@ -53,17 +52,17 @@ held_small true amount low = low
 held_small false amount low = omega arith
 
 -- a move that there is
-pub move_small : (feed : FeedRows) (rider : Option RiderId) (state : Option FareState) (held : ℤ) (leg : LegFacts) (move : Move) →
-    IsSoundFeed feed → IsLow held → move_after feed rider state held leg move ≡ Some move → IsSmall move
+pub move_small : (feed : FeedRows) (buyer : Buyer) (state : Option FareState) (held : ℤ) (leg : LegFacts) (move : Move) →
+    IsSoundFeed feed → IsLow held → move_after feed buyer state held leg move ≡ Some move → IsSmall move
 unfolding move_of_first move_of_next
-move_small feed rider None held leg move sound low is =
+move_small feed buyer None held leg move sound low is =
     let first = chain_gives _ (chosen_leg feed leg (leg_taken move)) move is in
     let made = (cond_some _ _ _ first.gives).1 in
     record {
       paid = subst (λ (m : Move). nat_abs m.paid.0 ≤ 3 * 10 ^ 12) made (omega arith);
       held = subst (λ (m : Move). nat_abs m.held.0 ≤ 10 ^ 12) made (low_amount feed sound move.product);
     }
-move_small feed rider (Some state) held leg move sound low is =
+move_small feed buyer (Some state) held leg move sound low is =
     let next = chain_gives _ (chosen_leg feed leg (leg_taken move)) move is in
     let made = (cond_some _ _ _ next.gives).1 in
     let kind = place_kind feed (place_taken move) in

@@ -21,10 +21,10 @@ use Rattle.plan_rounds.proofs.MoveBounds.{move_small}
 
 -- enough moves after a label
 moves_of : (feed : FeedRows) (query : Query) (label : Label) (leg : LegFacts) (moves : List Move) → IsSoundFeed feed → IsBounded label →
-    AreEnoughMoves feed query.rider label.state label.held.0 leg moves → AreMovesOf feed query label leg moves
+    AreEnoughMoves feed query.buyer label.state label.held.0 leg moves → AreMovesOf feed query label leg moves
 moves_of feed query label leg moves sound bounded are = record {
   enough = are;
-  small = λ k d lt. move_small feed query.rider label.state label.held.0 leg _ sound bounded.held (are.right k d lt);
+  small = λ k d lt. move_small feed query.buyer label.state label.held.0 leg _ sound bounded.held (are.right k d lt);
 }
 
 -- a ride's moments are those of the leg that it is
@@ -34,25 +34,25 @@ ride_times feed ride = refl
 
 -- of a label without rides
 pub moves_of_starts : {E : Type 0} (result : Result (Unit {0}) E) (own : FareTerms) (feed : FeedRows) (query : Query) (label : Label) (leg : LegFacts) (moves : List Move) →
-    own ≡ terms feed query.rider → IsSoundFeed feed → IsBounded label → label.state ≡ None →
-    OnOk result (AreEnoughMoves own.feed own.rider None (pos 0) leg moves) → OnOk result (AreMovesOf feed query label leg moves)
+    own ≡ terms feed query.buyer → IsSoundFeed feed → IsBounded label → label.state ≡ None →
+    OnOk result (AreEnoughMoves own.feed own.buyer None (pos 0) leg moves) → OnOk result (AreMovesOf feed query label leg moves)
 moves_of_starts (Err e) own feed query label leg moves same sound bounded none are = are
 moves_of_starts (Ok u) own feed query label leg moves same sound bounded none are =
     moves_of feed query label leg moves sound bounded
-    (subst (λ state. AreEnoughMoves feed query.rider state label.held.0 leg moves) (sym none) (record { right = enough.right; enough = enough.enough }))
+    (subst (λ state. AreEnoughMoves feed query.buyer state label.held.0 leg moves) (sym none) (record { right = enough.right; enough = enough.enough }))
   where
-    enough : AreEnoughMoves feed query.rider None (pos 0) leg moves
-    enough = subst (λ (t : FareTerms). AreEnoughMoves t.feed t.rider None (pos 0) leg moves) same are
+    enough : AreEnoughMoves feed query.buyer None (pos 0) leg moves
+    enough = subst (λ (t : FareTerms). AreEnoughMoves t.feed t.buyer None (pos 0) leg moves) same are
 
 -- of a label with a state
 pub moves_of_steps : {E : Type 0} (result : Result (Unit {0}) E) (own : FareTerms) (feed : FeedRows) (query : Query) (label : Label) (state : FareState) (leg : LegFacts) (moves : List Move) →
-    own ≡ terms feed query.rider → IsSoundFeed feed → IsBounded label → label.state ≡ Some state →
-    OnOk result (AreEnoughMoves own.feed own.rider (Some state) label.held.0 leg moves) → OnOk result (AreMovesOf feed query label leg moves)
+    own ≡ terms feed query.buyer → IsSoundFeed feed → IsBounded label → label.state ≡ Some state →
+    OnOk result (AreEnoughMoves own.feed own.buyer (Some state) label.held.0 leg moves) → OnOk result (AreMovesOf feed query label leg moves)
 moves_of_steps (Err e) own feed query label state leg moves same sound bounded some are = are
 moves_of_steps (Ok u) own feed query label state leg moves same sound bounded some are =
     moves_of feed query label leg moves sound bounded
-    (subst (λ s. AreEnoughMoves feed query.rider s label.held.0 leg moves) (sym some)
-    (subst (λ (t : FareTerms). AreEnoughMoves t.feed t.rider (Some state) label.held.0 leg moves) same are))
+    (subst (λ s. AreEnoughMoves feed query.buyer s label.held.0 leg moves) (sym some)
+    (subst (λ (t : FareTerms). AreEnoughMoves t.feed t.buyer (Some state) label.held.0 leg moves) same are))
 
 -- where the move at k isn't as good as the other, nor is one before it, none before the next is
 pub none_better : (moves : List Move) (number k : ℕ) (a b : Move) → slice_get moves k ≡ Some a → slice_get moves number ≡ Some b →

@@ -31,7 +31,7 @@ below : (x y z : ℤ) → x ≤ℤ y → y ≤ℤ z → x ≤ℤ z
 below x y z p q = omega (arith, ints, p, q)
 
 module _ (feed : FeedRows) (query : Query) (lasts : List Bool) (bounds : BoundLists) (sound : IsSoundFeed feed)
-    (are : AreFareBounds feed query.rider query.rides lasts bounds) (last : AreLastMoves feed query lasts) where
+    (are : AreFareBounds feed query.buyer query.rides lasts bounds) (last : AreLastMoves feed query lasts) where
   -- what is told of so many further rides after such facts
   abbrev told : ℕ → LabelFacts → ℤ
   told more a = least_more bounds more a.state a.paid a.held
@@ -130,7 +130,7 @@ leads_low feed query sound zero a triple low leads =
     here z p h is low = omega (arith, ints, is, low)
 leads_low feed query sound (suc n) a triple low leads =
     let step = leads.3 in
-    let small = move_small feed query.rider a.state a.held (leg_facts feed step.facts) leads.1 sound low step.pays in
+    let small = move_small feed query.buyer a.state a.held (leg_facts feed step.facts) leads.1 sound low step.pays in
     further triple.price.0 a.paid leads.1.paid.0 leads.2.paid (ap (λ (x : LabelFacts). x.paid) step.next) small.paid
     (leads_low feed query sound n leads.2 triple
     (subst (λ (x : LabelFacts). nat_abs x.held ≤ 10 ^ 12) (sym step.next) small.held) leads.4)

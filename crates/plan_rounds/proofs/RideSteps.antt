@@ -76,7 +76,7 @@ module _ (feed : FeedRows) (query : Query) (source : Source) (is : IsSource feed
   within_after sound = caught_within feed query (stand_of_label from) caught.ride (stand_at_end caught.facts) sound is.within right.next
 
   pub fresh_after : (taken : Move) → IsSoundFeed feed →
-      move_after feed query.rider from.state from.held.0 leg taken ≡ Some taken → IsBounded (went_on from source.number caught.ride caught.facts taken) →
+      move_after feed query.buyer from.state from.held.0 leg taken ≡ Some taken → IsBounded (went_on from source.number caught.ride caught.facts taken) →
       IsPrunedBy feed query source.labels.now (went_on from source.number caught.ride caught.facts taken) →
       IsFresh feed query source.labels.now (from.rides + 1) (went_on from source.number caught.ride caught.facts taken)
   fresh_after taken sound pays bounded pruned = record {

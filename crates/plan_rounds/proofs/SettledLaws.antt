@@ -9,7 +9,7 @@ use Rattle.transit_base.specs.Limits.{most_time}
 use Rattle.transit_base.specs.declared.moments.Moment.{Moment}
 use Rattle.transit_base.specs.declared.moments.Money.{Money}
 use Rattle.transit_base.specs.declared.numbers.LegGroupId.{LegGroupId}
-use Rattle.transit_base.specs.declared.numbers.RiderId.{RiderId}
+use Rattle.feed_rows.specs.declared.journeys.Buyer.{Buyer}
 use Rattle.feed_rows.specs.declared.fares.LegChoice.{LegChoice}
 use Rattle.feed_rows.specs.declared.journeys.LegFacts.{LegFacts}
 use Rattle.feed_rows.specs.declared.journeys.RideFacts.{RideFacts}
@@ -48,14 +48,14 @@ use Rattle.plan_rounds.proofs.RideSteps.{rides_by}
 -- ---- the groups of legs
 
 -- more groups are those of the rule too
-pub grouped_more : (feed : FeedRows) (rider : Option RiderId) (old new : List (Option LegGroupId)) → StayGroups old new →
-    (caught : CaughtRide) → IsGrouped feed rider old caught → IsGrouped feed rider new caught
-grouped_more feed rider old new still caught has pick is group of_group = still group (has pick is group of_group)
+pub grouped_more : (feed : FeedRows) (buyer : Buyer) (old new : List (Option LegGroupId)) → StayGroups old new →
+    (caught : CaughtRide) → IsGrouped feed buyer old caught → IsGrouped feed buyer new caught
+grouped_more feed buyer old new still caught has pick is group of_group = still group (has pick is group of_group)
 
 -- the groups of options that are enough are those of all
-pub grouped_by : (feed : FeedRows) (rider : Option RiderId) (groups : List (Option LegGroupId)) (caught : CaughtRide) (picks : List LegChoice) →
-    AreEnough feed rider (leg_facts feed caught.facts) picks → All (HasGroup feed groups) picks → IsGrouped feed rider groups caught
-grouped_by feed rider groups caught picks enough all pick is group of_group =
+pub grouped_by : (feed : FeedRows) (buyer : Buyer) (groups : List (Option LegGroupId)) (caught : CaughtRide) (picks : List LegChoice) →
+    AreEnough feed buyer (leg_facts feed caught.facts) picks → All (HasGroup feed groups) picks → IsGrouped feed buyer groups caught
+grouped_by feed buyer groups caught picks enough all pick is group of_group =
     let lesser = enough.enough pick is in
     All-contains (HasGroup feed groups) picks lesser.0 all lesser.1 group (lesser.2.group ∙ of_group)
 
@@ -121,12 +121,12 @@ unfolding leg_facts
 leg_arrives feed facts = refl
 
 module _ (task : Searched) (sound : IsSoundFeed task.feed) (rides : List CaughtRide) (groups : List (Option LegGroupId))
-    (all : AreGroupsOf task.feed task.query.rider rides groups) (x : Label) (reached : Reached) (own : SettledLabel)
+    (all : AreGroupsOf task.feed task.query.buyer rides groups) (x : Label) (reached : Reached) (own : SettledLabel)
     (at : IsSettledAt task.feed groups x reached own) where
   -- no change is arranged to a late ride
   apart : (caught : CaughtRide) → Contains rides caught → IsRight task.feed task.query (stand_of_label x) caught →
       own.since.0 <ℤ caught.facts.departure.0 → (move : Move) →
-      IsApart task.feed task.query.rider at.settles.own x.held.0 (leg_facts task.feed caught.facts) move
+      IsApart task.feed task.query.buyer at.settles.own x.held.0 (leg_facts task.feed caught.facts) move
   apart caught has right departs move next chosen pays =
       let told = chosen_tells task.feed (leg_facts task.feed caught.facts) (leg_taken move) next chosen in
       let timed = ride_facts_timed task.feed caught.ride caught.facts most_time (sound_trip task.feed caught.ride.trip sound) right.facts in
@@ -153,14 +153,14 @@ module _ (task : Searched) (sound : IsSoundFeed task.feed) (rides : List CaughtR
       let caught = afresh.caught in
       let right = rights caught afresh.has (caught_at reached.earliest.0 own.since.0 caught.facts.departure.0 at.settles.gets afresh.departs) in
       let leg = leg_facts task.feed caught.facts in
-      let move = next_of_first task.feed task.query.rider at.settles.own x.held.0 leg afresh.move
+      let move = next_of_first task.feed task.query.buyer at.settles.own x.held.0 leg afresh.move
       (apart caught afresh.has right afresh.departs afresh.move) afresh.pays in
       let alike = move.2 in
       let step : IsLabelStep task.feed task.query (facts_of x) caught.ride move.0 (facts_after (facts_of x) caught.facts move.0) =
       record {
         facts = caught.facts;
         rides = rides_by task.feed task.query x caught few right;
-        pays = subst (λ (s : Option FareState). move_after task.feed task.query.rider s x.held.0 leg move.0 ≡ Some move.0) (sym at.settles.is) move.1;
+        pays = subst (λ (s : Option FareState). move_after task.feed task.query.buyer s x.held.0 leg move.0 ≡ Some move.0) (sym at.settles.is) move.1;
         next = refl;
       } in
       let made : b ≡ facts_after (facts_of x) caught.facts move.0 =
@@ -186,9 +186,9 @@ module _ (task : Searched) (sound : IsSoundFeed task.feed) (rides : List CaughtR
       let step = by.1 in
       let ride : step.facts ≡ caught.facts = same_Some _ _ (sym step.rides.is ∙ right.facts) in
       let leg = leg_facts task.feed caught.facts in
-      let pays = subst (λ (s : Option FareState). move_after task.feed task.query.rider s x.held.0 leg by.0 ≡ Some by.0) at.settles.is
-      (subst (λ (f : RideFacts). move_after task.feed task.query.rider x.state x.held.0 (leg_facts task.feed f) by.0 ≡ Some by.0) ride step.pays) in
-      let first = first_of_next task.feed task.query.rider at.settles.own x.held.0 leg by.0 (apart caught has right departs by.0) pays in
+      let pays = subst (λ (s : Option FareState). move_after task.feed task.query.buyer s x.held.0 leg by.0 ≡ Some by.0) at.settles.is
+      (subst (λ (f : RideFacts). move_after task.feed task.query.buyer x.state x.held.0 (leg_facts task.feed f) by.0 ≡ Some by.0) ride step.pays) in
+      let first = first_of_next task.feed task.query.buyer at.settles.own x.held.0 leg by.0 (apart caught has right departs by.0) pays in
       let alike = first.2 in
       let a = facts_by caught count other.price.0 first.0.held first.0.state in
       let next : b ≡ facts_after (facts_of x) caught.facts by.0 = step.next ∙ ap (λ (f : RideFacts). facts_after (facts_of x) f by.0) ride in
@@ -219,7 +219,7 @@ module _ (task : Searched) (sound : IsSoundFeed task.feed) (rides : List CaughtR
 
 -- all is done past the moment that is told
 pub passed_by : (task : Searched) → IsSoundFeed task.feed → (finals : List Final) (count : ℕ) (rides : List CaughtRide)
-    (groups : List (Option LegGroupId)) → AreGroupsOf task.feed task.query.rider rides groups → (bags : List Label)
+    (groups : List (Option LegGroupId)) → AreGroupsOf task.feed task.query.buyer rides groups → (bags : List Label)
     (labels : List SettledLabel) → All (IsTried task finals count rides bags) labels → (x : Label) (reached : Reached) → x.rides ≡ count →
     ((caught : CaughtRide) → Contains rides caught → int_le reached.earliest.0 caught.facts.departure.0 ≡ true →
     IsRight task.feed task.query (stand_of_label x) caught) →
@@ -254,7 +254,7 @@ pub settled_none : (task : Searched) (finals : List Final) (count : ℕ) (kept :
     kept.settled.groups.items ≡ [] → kept.settled.labels.items ≡ [] → AreSettled task finals count kept bags
 settled_none task finals count kept bags none groups labels = record {
   groups = record {
-    groups = subst (λ (k : Kept). AreGroupsOf task.feed task.query.rider k.rides kept.settled.groups.items) (sym none)
+    groups = subst (λ (k : Kept). AreGroupsOf task.feed task.query.buyer k.rides kept.settled.groups.items) (sym none)
         (λ caught has. let lt = has.1 in absurd (omega (arith, lt)));
     changes = subst (λ (gs : List (Option LegGroupId)). AreLastChanges task.feed gs kept.settled.changes) (sym groups)
         (no_groups task.feed kept.settled.changes);

@@ -1,6 +1,5 @@
 -- The kinds of the legs that rides are.
 use Rattle.std.specs.Prelude.{◌≡◌, ℕ, List, Some, length, slice_get}
-use Rattle.feed_rows.specs.declared.journeys.LegFacts.{LegFacts}
 use Rattle.feed_rows.specs.FeedRows.{FeedRows}
 use Rattle.feed_rows.specs.Legs.{leg_facts}
 use Rattle.fare_automaton.specs.Known.{KnownPicks}
@@ -22,7 +21,3 @@ pub record AreKinds (feed : FeedRows) (known : KnownPicks) (rides : List CaughtR
 -- so it is with rides that are kept
 abbrev pub HasKinds : FeedRows → KnownPicks → KeptLegs → Type 0
 HasKinds feed known kept = AreKinds feed known kept.rides.rides kept.kinds.items
-
--- what was known under a number for legs of a kind still is
-abbrev pub StayKnown : KnownPicks → KnownPicks → Type 0
-StayKnown old new = (leg : LegFacts) (number : ℕ) → IsOfKind old.lists leg number → IsOfKind new.lists leg number

@@ -1,6 +1,5 @@
 pub mod Bounds
 pub mod Gathered
-pub mod Kinds
 pub mod Legs
 pub mod Moves
 pub mod Planned

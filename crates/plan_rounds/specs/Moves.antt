@@ -13,12 +13,12 @@ use Rattle.round_labels.specs.Labels.{IsSmall, same_parts}
 
 -- enough of those that there are, with amounts that one ride can cost
 pub record AreMovesOf (feed : FeedRows) (query : Query) (label : Label) (leg : LegFacts) (moves : List Move) : Type 0 where
-  pub enough : AreEnoughMoves feed query.rider label.state label.held.0 leg moves
+  pub enough : AreEnoughMoves feed query.buyer label.state label.held.0 leg moves
   pub small : All IsSmall moves
 
--- what is kept of options is for the rider of what is asked
+-- what is kept of options is for the buyer of what is asked
 abbrev pub HasFares : Searched → KnownPicks → Type 0
-HasFares task known = known.terms ≡ terms task.feed task.query.rider
+HasFares task known = known.terms ≡ terms task.feed task.query.buyer
 
 -- the one leads to the same state of fares as the other, and neither pays more nor costs more
 unfoldable pub betters : Move → Move → Bool

@@ -23,7 +23,7 @@ abbrev pub IsLateSince : BoundLists → Option FareState → ℤ → Moment → 
 IsLateSince bounds state last since =
     (moment : ℤ) → late_after bounds state ≡ Some moment → (moment ≤ℤ since.0) ⊎ (last ≤ℤ since.0)
 
--- they are bounds by the fare rules for the query's rider and rides, and the groups of all legs are marked with which a journey ends
+-- they are bounds by the fare rules for the query's buyer and rides, and the groups of all legs are marked with which a journey ends
 pub record AreLeastPrices (feed : FeedRows) (query : Query) (prices : LeastPrices) : Type 0 where
-  pub bounds : AreFareBounds feed query.rider query.rides prices.lasts.items prices.bounds
+  pub bounds : AreFareBounds feed query.buyer query.rides prices.lasts.items prices.bounds
   pub lasts : AreLastMoves feed query prices.lasts.items

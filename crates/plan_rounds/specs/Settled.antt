@@ -4,7 +4,7 @@
 use Rattle.std.specs.Prelude.{◌≡◌, ◌⊎◌, ℕ, ◌+◌, true, List, [], ◌∷◌, ◌++◌, All, Contains, Option, Some, None, int_le, ℤ, pos, ◌+ℤ◌, ◌≤ℤ◌, ◌<ℤ◌}
 use Rattle.transit_base.specs.declared.moments.Moment.{Moment}
 use Rattle.transit_base.specs.declared.numbers.LegGroupId.{LegGroupId}
-use Rattle.transit_base.specs.declared.numbers.RiderId.{RiderId}
+use Rattle.feed_rows.specs.declared.journeys.Buyer.{Buyer}
 use Rattle.feed_rows.specs.declared.fares.LegChoice.{LegChoice}
 use Rattle.feed_rows.specs.declared.states.FareState.{FareState}
 use Rattle.feed_rows.specs.declared.states.Move.{Move}
@@ -36,17 +36,17 @@ abbrev pub HasGroup : FeedRows → List (Option LegGroupId) → LegChoice → Ty
 HasGroup feed groups pick = (group : Option LegGroupId) → group_of feed pick ≡ Some group → Contains groups group
 
 -- so is that of each option of the leg that is the ride
-abbrev pub IsGrouped : FeedRows → Option RiderId → List (Option LegGroupId) → CaughtRide → Type 0
-IsGrouped feed rider groups caught =
-    (pick : LegChoice) → is_leg_choice feed rider (leg_facts feed caught.facts) pick ≡ true → HasGroup feed groups pick
+abbrev pub IsGrouped : FeedRows → Buyer → List (Option LegGroupId) → CaughtRide → Type 0
+IsGrouped feed buyer groups caught =
+    (pick : LegChoice) → is_leg_choice feed buyer (leg_facts feed caught.facts) pick ≡ true → HasGroup feed groups pick
 
 -- so it is for each of the rides
-abbrev pub AreGroupsOf : FeedRows → Option RiderId → List CaughtRide → List (Option LegGroupId) → Type 0
-AreGroupsOf feed rider rides groups = (caught : CaughtRide) → Contains rides caught → IsGrouped feed rider groups caught
+abbrev pub AreGroupsOf : FeedRows → Buyer → List CaughtRide → List (Option LegGroupId) → Type 0
+AreGroupsOf feed buyer rides groups = (caught : CaughtRide) → Contains rides caught → IsGrouped feed buyer groups caught
 
 -- so it is with rides that are kept; and until when changes to these groups are arranged is told
 pub record HasGroups (task : Searched) (kept : KeptLegs) : Type 0 where
-  pub groups : AreGroupsOf task.feed task.query.rider kept.rides.rides kept.settled.groups.items
+  pub groups : AreGroupsOf task.feed task.query.buyer kept.rides.rides kept.settled.groups.items
   pub changes : AreLastChanges task.feed kept.settled.groups.items kept.settled.changes
 
 -- ---- labels that were tried
@@ -71,7 +71,7 @@ pub record IsAfresh (task : Searched) (rides : List CaughtRide) (count : ℕ) (o
   pub has : Contains rides caught
   pub departs : own.since.0 <ℤ caught.facts.departure.0
   pub move : Move
-  pub pays : move_after task.feed task.query.rider None (pos 0) (leg_facts task.feed caught.facts) move ≡ Some move
+  pub pays : move_after task.feed task.query.buyer None (pos 0) (leg_facts task.feed caught.facts) move ≡ Some move
   pub next : b ≡ record {
     stop = caught.facts.to;
     arrival = caught.facts.arrival.0;

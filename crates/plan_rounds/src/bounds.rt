@@ -15,15 +15,12 @@ ghost use Rattle.plan_rounds.specs.Sources.{IsSource};
 
 use crate::prices::{LeastPrices, is_far};
 use crate::search::{Search, Source};
-use feed_rows::{Feed, Triple};
+use feed_rows::{CHANGE_ALONE, Feed, Triple};
 use feed_timetable::Standing;
 use plan_rides::deadline;
 use round_labels::Label;
 use round_table::Final;
 use transit_base::{Moment, Money, Secs, StopId};
-
-/// The `fare_transfer_type` by which the change alone is paid, and not the leg before it.
-const CHANGE_ALONE: u8 = 2;
 
 /// Whether some change takes back what a leg before it cost.
 #[tactic(auto, unfolding(round_laws::specs::Futility::some_takes_back))]
@@ -129,7 +126,7 @@ impl<'s, 'l> Search<'s, 'l> {
 
     /// How little a leg with the change to it can cost.
     fn floor(&self) -> Money
-        ensures { result.0 ≡ fare_floor self.now.feed self.now.query.rider }
+        ensures { result.0 ≡ fare_floor self.now.feed self.now.query.buyer }
     {
         self.automaton.floor()
     }

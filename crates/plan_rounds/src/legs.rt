@@ -3,16 +3,17 @@ ghost use Rattle.std.specs.Prelude.{◌≡◌, [], OnOk};
 ghost use Rattle.plan_rides.specs.Departures.{Serves};
 ghost use Rattle.plan_rides.specs.Cutoffs.{AreLastDepartures, cutoff_of};
 ghost use Rattle.plan_rides.specs.Reached.{AreKept, HoldsFrom, none_kept};
-ghost use Rattle.plan_rounds.specs.Legs.{AreKinds, HasKinds, StayKnown};
+ghost use Rattle.plan_rounds.specs.Legs.{AreKinds, HasKinds};
+ghost use Rattle.ride_kinds.specs.RideKinds.{StayKnown};
 ghost use Rattle.plan_rounds.specs.Moves.{HasFares};
 ghost use Rattle.plan_rounds.specs.Settled.{HasGroups, StayLabels};
 
-use crate::kinds::LegKinds;
 use crate::repeats::Repeats;
 use crate::scan::{Cutoffs, Round};
 use crate::search::{Found, Search};
 use crate::settled::Settled;
 use plan_rides::{CaughtRide, Cutoff, KeptRides, Reached};
+use ride_kinds::LegKinds;
 use std::alloc::{AllocError, Global};
 use transit_base::Moment;
 

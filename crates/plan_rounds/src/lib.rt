@@ -4,7 +4,6 @@
 
 mod bounds;
 mod ends;
-mod kinds;
 mod lasts;
 mod legs;
 mod moves;

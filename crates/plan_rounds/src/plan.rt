@@ -58,7 +58,7 @@ fn spans_of(alloc: Global, rides: &Rides, whole: bool) -> Result<Spans, AllocErr
     if whole {
         return Ok(Spans::none(alloc));
     }
-    Spans::of(alloc, rides, rides.query().rides)
+    rides.spans(alloc)
 }
 
 /// The table of the search by these with this aim.
@@ -76,8 +76,8 @@ fn table_with<'s, 'l>(
     found: &mut Found<'s, '_>,
 ) -> Result<RoundTable, AllocError>
     requires feed { feed.now ≡ rides.now.feed }
-    requires fares { found.old.known.terms ≡ terms rides.now.feed rides.now.query.rider }
-    requires automaton { automaton.now ≡ terms rides.now.feed rides.now.query.rider }
+    requires fares { found.old.known.terms ≡ terms rides.now.feed rides.now.query.buyer }
+    requires automaton { automaton.now ≡ terms rides.now.feed rides.now.query.buyer }
     requires spans { AreSpans rides.now.feed rides.now.query spans.now }
     requires prices { AreLeastPrices rides.now.feed rides.now.query prices.now }
     requires none { aim.whole ≡ true → spans.now ≡ no_spans }
@@ -166,8 +166,8 @@ fn found_soon<'s, 'l>(
     found: &mut Found<'s, '_>,
 ) -> Result<Vec<Entry>, AllocError>
     requires feed { feed.now ≡ rides.now.feed }
-    requires fares { found.old.known.terms ≡ terms rides.now.feed rides.now.query.rider }
-    requires automaton { automaton.now ≡ terms rides.now.feed rides.now.query.rider }
+    requires fares { found.old.known.terms ≡ terms rides.now.feed rides.now.query.buyer }
+    requires automaton { automaton.now ≡ terms rides.now.feed rides.now.query.buyer }
     requires spans { AreSpans rides.now.feed rides.now.query spans.now }
     requires prices { AreLeastPrices rides.now.feed rides.now.query prices.now }
     ensures fares { found.new.known.terms ≡ found.old.known.terms }
@@ -199,8 +199,8 @@ fn known_with<'s>(
     found: &mut Found<'s, '_>,
 ) -> Result<Vec<Entry>, AllocError>
     requires feed { feed.now ≡ rides.now.feed }
-    requires fares { found.old.known.terms ≡ terms rides.now.feed rides.now.query.rider }
-    requires automaton { automaton.now ≡ terms rides.now.feed rides.now.query.rider }
+    requires fares { found.old.known.terms ≡ terms rides.now.feed rides.now.query.buyer }
+    requires automaton { automaton.now ≡ terms rides.now.feed rides.now.query.buyer }
     requires spans { AreSpans rides.now.feed rides.now.query spans.now }
     requires prices { AreLeastPrices rides.now.feed rides.now.query prices.now }
     ensures fares { found.new.known.terms ≡ found.old.known.terms }
@@ -248,8 +248,8 @@ fn planned_with<'s>(
     found: &mut Found<'s, '_>,
 ) -> Result<(RoundTable, Vec<Entry>), AllocError>
     requires feed { feed.now ≡ rides.now.feed }
-    requires fares { found.old.known.terms ≡ terms rides.now.feed rides.now.query.rider }
-    requires automaton { automaton.now ≡ terms rides.now.feed rides.now.query.rider }
+    requires fares { found.old.known.terms ≡ terms rides.now.feed rides.now.query.buyer }
+    requires automaton { automaton.now ≡ terms rides.now.feed rides.now.query.buyer }
     requires spans { AreSpans rides.now.feed rides.now.query spans.now }
     requires prices { AreLeastPrices rides.now.feed rides.now.query prices.now }
     requires none { whole ≡ true → spans.now ≡ no_spans }
@@ -283,7 +283,7 @@ fn prices_of(
 {
     let query = rides.query();
     let lasts = last_groups(alloc, rides, spans)?;
-    let bounds = FareBounds::of(alloc, feed, query.rider, query.rides, &lasts)?;
+    let bounds = FareBounds::of(alloc, feed, query.buyer, query.rides, &lasts)?;
     Ok(LeastPrices { bounds, lasts })
 }
 
@@ -299,17 +299,22 @@ fn planned_at<'s>(
     whole: bool,
 ) -> Result<(RoundTable, Vec<Entry>), AllocError>
     requires feed { feed.now ≡ rides.now.feed }
-    requires automaton { automaton.now ≡ terms rides.now.feed rides.now.query.rider }
+    requires automaton { automaton.now ≡ terms rides.now.feed rides.now.query.buyer }
     ensures { IfOk result (λ planned. IsPlanned rides.now whole planned.0 planned.1.items) }
 {
     let query = rides.query();
-    let timeframes = Timeframes::between(alloc, feed, query.departure, deadline(query))?;
+    let calendar = rides.timetable().calendar();
     let spans = spans_of(alloc, rides, whole)?;
     let prices = prices_of(alloc, rides, feed, &spans)?;
-    let mut found = Found::none(alloc, automaton, &timeframes)?;
-    planned_with(
-        alloc, rides, automaton, feed, &spans, &prices, whole, &mut found,
-    )
+    match Timeframes::between(alloc, feed, calendar, query.departure, deadline(query)) {
+        Ok(timeframes) => {
+            let mut found = Found::none(alloc, automaton, &timeframes)?;
+            planned_with(
+                alloc, rides, automaton, feed, &spans, &prices, whole, &mut found,
+            )
+        }
+        Err(AllocError) => Err(AllocError),
+    }
 }
 
 /// The same by the rides.
@@ -322,7 +327,7 @@ fn planned_over<'s>(
     requires { feed.now ≡ rides.now.feed }
     ensures { IfOk result (λ planned. IsPlanned rides.now whole planned.0 planned.1.items) }
 {
-    match Automaton::compile(alloc, feed, rides.query().rider) {
+    match Automaton::compile(alloc, feed, rides.query().buyer) {
         Ok(automaton) => planned_at(alloc, rides, &automaton, feed, whole),
         Err(AllocError) => Err(AllocError),
     }

@@ -16,10 +16,10 @@ ghost use Rattle.plan_rounds.specs.Stores.{StepsFrom};
 ghost use Rattle.round_labels.specs.declared.label.Label.{Label};
 
 use crate::bounds::Until;
-use crate::kinds::LegKinds;
 use crate::legs::{KeptLegs, RideLegs};
 use crate::search::{Found, Room, Search, Source};
 use plan_rides::{CaughtRide, Cutoff, Positions, Reached, Traveller, is_early};
+use ride_kinds::LegKinds;
 use round_labels::{LabelList, StopBags};
 use round_table::Final;
 use std::alloc::AllocError;

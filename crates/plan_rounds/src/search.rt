@@ -23,7 +23,6 @@ ghost use Rattle.round_labels.specs.Labels.{covers};
 ghost use Rattle.round_labels.specs.Bags.{gathered};
 ghost use Rattle.plan_rounds.specs.Stores.{AreStored, AreWhole, IsNever, IsStartOf, Spreads, StepsBy, StepsFrom};
 
-use crate::kinds::LegKinds;
 use crate::legs::KeptLegs;
 use crate::moves::is_bettered;
 use crate::prices::LeastPrices;
@@ -35,6 +34,7 @@ use feed_rows::{ChangeChoice, Feed, LegChoice, Move, Query, RideFacts, Triple};
 use feed_timetable::Timetable;
 use pareto_front::Front;
 use plan_rides::{CaughtRide, Rides, Spans};
+use ride_kinds::LegKinds;
 use round_labels::{Label, LabelList, StopBags};
 use round_table::Final;
 use std::alloc::{AllocError, Global};
@@ -61,7 +61,7 @@ pub struct Search<'s, 'l> {
     pub(crate) alloc: Global,
     pub(crate) rides: &'l Rides<'s>,
     pub(crate) feed: &'l Feed,
-    /// The fares for the query's rider.
+    /// The fares for the query's buyer.
     pub(crate) automaton: &'l Automaton<'s>,
     /// The least seconds to a journey's end; none where the search is to be whole.
     pub(crate) spans: &'l Spans,
@@ -84,7 +84,7 @@ impl<'s, 'l> Model for Search<'s, 'l> {
 
     ghost view = { λ s. searched s.rides.now (aim_of s.aim) };
 
-    ghost invariant = { λ s. (s.automaton.now ≡ terms s.rides.now.feed s.rides.now.query.rider) × (s.takes_back ≡ some_takes_back s.rides.now.feed) × AreSpans s.rides.now.feed s.rides.now.query s.spans.now × (s.aim.whole ≡ true → s.spans.now ≡ no_spans) × (s.feed.now ≡ s.rides.now.feed) × IsAim (aim_of s.aim) × AreLeastPrices s.rides.now.feed s.rides.now.query s.prices.now };
+    ghost invariant = { λ s. (s.automaton.now ≡ terms s.rides.now.feed s.rides.now.query.buyer) × (s.takes_back ≡ some_takes_back s.rides.now.feed) × AreSpans s.rides.now.feed s.rides.now.query s.spans.now × (s.aim.whole ≡ true → s.spans.now ≡ no_spans) × (s.feed.now ≡ s.rides.now.feed) × IsAim (aim_of s.aim) × AreLeastPrices s.rides.now.feed s.rides.now.query s.prices.now };
 }
 
 /// A label with its number among those so far, from which a round goes on.
@@ -136,7 +136,7 @@ impl<'s, 'l> Found<'s, 'l> {
     pub(crate) fn none(
         alloc: Global,
         automaton: &'l Automaton<'s>,
-        timeframes: &'l Timeframes,
+        timeframes: &'l Timeframes<'l>,
     ) -> Result<Found<'s, 'l>, AllocError>
         requires { AreTimeframesOf automaton.now.feed timeframes.now }
         ensures { IfOk result (λ found. found.known.terms ≡ automaton.now) }
@@ -272,7 +272,7 @@ impl<'s, 'l> Search<'s, 'l> {
         options: &[LegChoice],
     ) -> Result<(), AllocError>
         requires bounded { IsBounded label.now }
-        requires options { AreEnough self.now.feed self.now.query.rider (leg_facts self.now.feed ride.now) options.now }
+        requires options { AreEnough self.now.feed self.now.query.buyer (leg_facts self.now.feed ride.now) options.now }
         ensures { OnOk result (AreMovesOf self.now.feed self.now.query label.now (leg_facts self.now.feed ride.now) room.new.moves.items) }
     {
         let _feed = self.feed();
@@ -308,7 +308,7 @@ impl<'s, 'l> Search<'s, 'l> {
         requires source { IsSource self.now.feed self.now.query source.now }
         requires right { IsRight self.now.feed self.now.query (stand_of_label source.now.label.now) caught.now }
         requires ended { HasEnds self.now.feed self.now.query source.now.labels.now finals.now }
-        requires options { AreEnough self.now.feed self.now.query.rider (leg_facts self.now.feed caught.now.facts) options.now }
+        requires options { AreEnough self.now.feed self.now.query.buyer (leg_facts self.now.feed caught.now.facts) options.now }
         requires after { IsOutdoneAfter self.now finals.now source.now.label.now after.0 }
         ensures { OnOk result (SpreadsFrom self.now finals.now source.now (StepsBy self.now.feed self.now.query (facts_of source.now.label.now) caught.now.ride) bags.old bags.new) }
     {
@@ -340,7 +340,7 @@ impl<'s, 'l> Search<'s, 'l> {
         requires right { IsRight self.now.feed self.now.query (stand_of_label source.now.label.now) caught.now }
         requires ended { HasEnds self.now.feed self.now.query source.now.labels.now finals.now }
         requires small { IsSmall taken.now }
-        requires pays { move_after self.now.feed self.now.query.rider source.now.label.now.state source.now.label.now.held.0 (leg_facts self.now.feed caught.now.facts) taken.now ≡ Some taken.now }
+        requires pays { move_after self.now.feed self.now.query.buyer source.now.label.now.state source.now.label.now.held.0 (leg_facts self.now.feed caught.now.facts) taken.now ≡ Some taken.now }
         ensures { OnOk result (SpreadsFrom self.now finals.now source.now (λ b. b ≡ facts_after (facts_of source.now.label.now) caught.now.facts taken.now) bags.old bags.new) }
     {
         let _feed = self.feed();

@@ -10,11 +10,11 @@ ghost use Rattle.plan_rounds.specs.Settled.{AddsLabel, AreGroupsOf, HasCheaper, 
 ghost use Rattle.round_labels.specs.Labels.{IsBounded};
 
 use crate::bounds::later;
-use crate::kinds::LegKinds;
 use crate::search::Search;
 use fare_bounds::LastChanges;
 use feed_rows::{FareState, LegChoice};
 use plan_rides::{CaughtRide, Reached};
+use ride_kinds::LegKinds;
 use round_labels::Label;
 use std::alloc::{AllocError, Global};
 use std::marker::Model;
@@ -190,7 +190,7 @@ impl<'s, 'l> Search<'s, 'l> {
     ) -> Result<(), AllocError>
         requires kinds { AreKinds self.now.feed known.now rides.now kinds.now }
         requires fares { HasFares self.now known.now }
-        ensures groups { OnOk result (AreGroupsOf self.now.feed self.now.query.rider rides.now settled.new.groups.items) }
+        ensures groups { OnOk result (AreGroupsOf self.now.feed self.now.query.buyer rides.now settled.new.groups.items) }
         ensures changes { OnOk result (AreLastChanges self.now.feed settled.new.groups.items settled.new.changes) }
         ensures labels { OnOk result (settled.new.labels.items ≡ []) }
     {

@@ -1,4 +1,5 @@
 -- The rides that words name, as contracts see them.
+use Rattle.feed_rows.specs.Limits.{most_rides}
 use Rattle.std.specs.Prelude.{◌≡◌, ℕ, ◌≤ℤ◌, ◌≤◌, List, [], length, map, unwrap_or, IfSome, pos, negsuc}
 use Rattle.std.specs.Borrow.{Bor}
 use Rattle.transit_base.specs.Limits.{most_time}
@@ -43,4 +44,4 @@ pub record IsUsualRide (ride : RideWord) : Type 0 where
 pub record AreUsualRides (rides : RideWords) : Type 0 where
   pub counted : length rides.texts.items ≡ length (rides_of rides)
   pub some : 1 ≤ length (rides_of rides)
-  pub few : length (rides_of rides) ≤ 8
+  pub few : length (rides_of rides) ≤ most_rides

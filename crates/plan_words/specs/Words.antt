@@ -27,8 +27,8 @@ abbrev pub command_named : List ℕ → Option Command
 command_named name = find (λ command. bytes_eq name command.name) taken_commands
 
 -- what the words ask for, or their first fault
-unfoldable pub asked_of : List (List ℕ) → Result Request UsageFault
-asked_of words = read_words taken_commands words
+unfoldable pub read_command : List (List ℕ) → Result Request UsageFault
+read_command words = read_words taken_commands words
 
 -- the words behind the first
 abbrev pub behind : List (List ℕ) → List (List ℕ)

@@ -7,7 +7,7 @@ ghost use Rattle.feed_rows.specs.CommandWords.{is_one_of, is_dashed, joined_valu
 ghost use Rattle.plan_words.specs.Words.{behind};
 
 use crate::words::{count_behind, word_behind};
-use feed_rows::WordRole;
+use feed_rows::{MOST_RIDES, WordRole};
 use plan_arguments::WordList;
 
 /// The words that a command takes behind its name.
@@ -105,7 +105,7 @@ impl Form {
     {
         match self {
             Form::Plan => 4,
-            Form::Price => 8,
+            Form::Price => MOST_RIDES as usize,
             Form::Check => 0,
             Form::Gen => 2,
         }

@@ -11,5 +11,5 @@ mod words;
 
 pub use error::WordsError;
 pub use plan_arguments::WordList;
-pub use request::{Asked, GenWords, PlanWords, PriceWords, asked_of};
+pub use request::{CommandWords, GenWords, PlanWords, PriceWords, read_command};
 pub use rides::{RideWord, RideWords};

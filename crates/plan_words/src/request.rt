@@ -4,8 +4,8 @@ ghost use Rattle.feed_rows.specs.CommandWords.{positional_words, fits_form};
 ghost use Rattle.feed_rows.specs.Commands.{read_plan, read_price, read_gen};
 ghost use Rattle.plan_words.specs.Errors.{IsErrorOf};
 ghost use Rattle.plan_words.specs.Found.{IsFound};
-ghost use Rattle.plan_words.specs.Words.{asked_of, behind, form_of, command_of, command_named};
-ghost use Rattle.plan_words.specs.Request.{asked_request, IsUsualRequest};
+ghost use Rattle.plan_words.specs.Words.{read_command, behind, form_of, command_of, command_named};
+ghost use Rattle.plan_words.specs.Request.{command_request, IsUsualRequest};
 
 use crate::error::WordsError;
 use crate::found::{all_named, found_in, is_set, named, value_of};
@@ -13,7 +13,7 @@ use crate::grammar::Form;
 use crate::rides::{RideWords, rides_in};
 use crate::values::{date_in, number_in, option_number};
 use clap::ArgMatches;
-use feed_rows::{USUAL_WINDOW, UsageFault};
+use feed_rows::{MOST_RIDES, USUAL_WINDOW, UsageFault};
 use feed_text::time_of;
 use plan_arguments::WordList;
 use std::alloc::AllocError;
@@ -24,7 +24,7 @@ const MOST_WINDOW: u32 = 259_200;
 
 /// What a command's words ask for.
 #[derive(Drop)]
-pub enum Asked<'a> {
+pub enum CommandWords<'a> {
     /// The journeys of a plan.
     Plan(PlanWords<'a>),
     /// The price of rides.
@@ -72,8 +72,8 @@ pub struct GenWords {
 }
 
 // The plan that `clap` found the fields of, or its first fault.
-fn plan_in<'a>(found: &ArgMatches<'a>) -> Result<Asked<'a>, WordsError>
-    ensures value { (words : List (List ℕ)) → IsFound (form_of Form.Plan) words found.now → IfOk result (λ asked. Ok (asked_request asked) ≡ read_plan (positional_words (form_of Form.Plan) words) words) }
+fn plan_in<'a>(found: &ArgMatches<'a>) -> Result<CommandWords<'a>, WordsError>
+    ensures value { (words : List (List ℕ)) → IsFound (form_of Form.Plan) words found.now → IfOk result (λ command. Ok (command_request command) ≡ read_plan (positional_words (form_of Form.Plan) words) words) }
     ensures usual { IfOk result IsUsualRequest }
     ensures err { (words : List (List ℕ)) → IsFound (form_of Form.Plan) words found.now → IfErr result (IsErrorOf (read_plan (positional_words (form_of Form.Plan) words) words)) }
 {
@@ -83,14 +83,14 @@ fn plan_in<'a>(found: &ArgMatches<'a>) -> Result<Asked<'a>, WordsError>
     let Some(seconds) = time_of(named(found, 3).as_bytes(), 86_399) else {
         return Err(WordsError::Usage(UsageFault::BadTime));
     };
-    let Some(rides) = option_number(value_of(found, "--rides"), 4, 0, 8) else {
+    let Some(rides) = option_number(value_of(found, "--rides"), 4, 0, MOST_RIDES) else {
         return Err(WordsError::Usage(UsageFault::BadRides));
     };
     let within = value_of(found, "--within");
     let Some(window) = option_number(within, USUAL_WINDOW, 1, MOST_WINDOW) else {
         return Err(WordsError::Usage(UsageFault::BadWindow));
     };
-    Ok(Asked::Plan(PlanWords {
+    Ok(CommandWords::Plan(PlanWords {
         from: named(found, 0),
         to: named(found, 1),
         departure: Moment::at(day, i64::from(seconds)),
@@ -102,16 +102,16 @@ fn plan_in<'a>(found: &ArgMatches<'a>) -> Result<Asked<'a>, WordsError>
 }
 
 // The rides whose price the words ask for, of which `clap` found these fields, or their first fault.
-fn price_in<'a>(words: &WordList, found: &ArgMatches<'a>) -> Result<Asked<'a>, WordsError>
+fn price_in<'a>(words: &WordList, found: &ArgMatches<'a>) -> Result<CommandWords<'a>, WordsError>
     requires fits { fits_form (form_of Form.Price) (behind words.now) ≡ true }
     requires found { IsFound (form_of Form.Price) (behind words.now) found.now }
-    ensures value { IfOk result (λ asked. Ok (asked_request asked) ≡ read_price (positional_words (form_of Form.Price) (behind words.now)) (behind words.now)) }
+    ensures value { IfOk result (λ command. Ok (command_request command) ≡ read_price (positional_words (form_of Form.Price) (behind words.now)) (behind words.now)) }
     ensures usual { IfOk result IsUsualRequest }
     ensures err { IfErr result (IsErrorOf (read_price (positional_words (form_of Form.Price) (behind words.now)) (behind words.now))) }
 {
     let texts = all_named(words.alloc(), found)?;
     match rides_in(texts) {
-        Ok(rides) => Ok(Asked::Price(PriceWords {
+        Ok(rides) => Ok(CommandWords::Price(PriceWords {
             rider: value_of(found, "--rider"),
             rides,
         })),
@@ -120,8 +120,8 @@ fn price_in<'a>(words: &WordList, found: &ArgMatches<'a>) -> Result<Asked<'a>, W
 }
 
 // The generated feed that `clap` found the fields of, or its first fault.
-fn gen_in<'a>(found: &ArgMatches<'a>) -> Result<Asked<'a>, WordsError>
-    ensures value { (words : List (List ℕ)) → IsFound (form_of Form.Gen) words found.now → IfOk result (λ asked. Ok (asked_request asked) ≡ read_gen (positional_words (form_of Form.Gen) words) words) }
+fn gen_in<'a>(found: &ArgMatches<'a>) -> Result<CommandWords<'a>, WordsError>
+    ensures value { (words : List (List ℕ)) → IsFound (form_of Form.Gen) words found.now → IfOk result (λ command. Ok (command_request command) ≡ read_gen (positional_words (form_of Form.Gen) words) words) }
     ensures usual { IfOk result IsUsualRequest }
     ensures err { (words : List (List ℕ)) → IsFound (form_of Form.Gen) words found.now → IfErr result (IsErrorOf (read_gen (positional_words (form_of Form.Gen) words) words)) }
 {
@@ -131,25 +131,25 @@ fn gen_in<'a>(found: &ArgMatches<'a>) -> Result<Asked<'a>, WordsError>
     let Some(lines) = number_in(named(found, 1).as_bytes(), 2, 32) else {
         return Err(WordsError::Usage(UsageFault::BadLines));
     };
-    Ok(Asked::Gen(GenWords { seed, lines }))
+    Ok(CommandWords::Gen(GenWords { seed, lines }))
 }
 
 // What words that fit their command ask for, of which `clap` found these fields, or their first fault.
-fn asked_in<'a>(
+fn command_in<'a>(
     form: Form,
     words: &WordList,
     found: &ArgMatches<'a>,
-) -> Result<Asked<'a>, WordsError>
+) -> Result<CommandWords<'a>, WordsError>
     requires fits { fits_form (form_of form) (behind words.now) ≡ true }
     requires found { IsFound (form_of form) (behind words.now) found.now }
-    ensures value { IfOk result (λ asked. Ok (asked_request asked) ≡ (command_of form).read (positional_words (form_of form) (behind words.now)) (behind words.now)) }
+    ensures value { IfOk result (λ command. Ok (command_request command) ≡ (command_of form).read (positional_words (form_of form) (behind words.now)) (behind words.now)) }
     ensures usual { IfOk result IsUsualRequest }
     ensures err { IfErr result (IsErrorOf ((command_of form).read (positional_words (form_of form) (behind words.now)) (behind words.now))) }
 {
     match form {
         Form::Plan => plan_in(found),
         Form::Price => price_in(words, found),
-        Form::Check => Ok(Asked::Check),
+        Form::Check => Ok(CommandWords::Check),
         Form::Gen => gen_in(found),
     }
 }
@@ -172,11 +172,11 @@ fn form_named(name: &str) -> Option<Form>
 ///
 /// # Errors
 /// That fault; want of memory.
-#[tactic(auto, unfolding(crate::specs::Words::asked_of, feed_rows::specs::Commands::read_words))]
-pub fn asked_of(words: &WordList) -> Result<Asked<'_>, WordsError>
-    ensures value { IfOk result (λ asked. Ok (asked_request asked) ≡ asked_of words.now) }
+#[tactic(auto, unfolding(crate::specs::Words::read_command, feed_rows::specs::Commands::read_words))]
+pub fn read_command(words: &WordList) -> Result<CommandWords<'_>, WordsError>
+    ensures value { IfOk result (λ command. Ok (command_request command) ≡ read_command words.now) }
     ensures usual { IfOk result IsUsualRequest }
-    ensures err { IfErr result (IsErrorOf (asked_of words.now)) }
+    ensures err { IfErr result (IsErrorOf (read_command words.now)) }
 {
     if words.is_empty() {
         return Err(WordsError::Usage(UsageFault::WrongWords));
@@ -188,7 +188,7 @@ pub fn asked_of(words: &WordList) -> Result<Asked<'_>, WordsError>
         return Err(WordsError::Usage(UsageFault::WrongWords));
     }
     match found_in(form, words) {
-        Ok(found) => asked_in(form, words, &found),
+        Ok(found) => command_in(form, words, &found),
         Err(AllocError) => Err(WordsError::NoMemory),
     }
 }

@@ -1,18 +1,18 @@
 //! The words that name the rides of `price`.
 ghost use Rattle.std.specs.Prelude.{◌≡◌, ◌<◌, ◌≤◌, IfOk, IfSome, Ok, Some, is_none, length, option_map, slice_get};
 ghost use Rattle.plain_laws.specs.Plain.{find_below};
+ghost use Rattle.feed_rows.specs.Limits.{most_rides};
 ghost use Rattle.feed_rows.specs.CommandWords.{word_at};
 ghost use Rattle.feed_rows.specs.NumberedItems.{read_at, read_each};
-ghost use Rattle.feed_rows.specs.RideWords.{comma_before, ride_parts, start_value, sequence_value, ride_word};
+ghost use Rattle.feed_rows.specs.RideWords.{comma_before, ride_parts, sequence_value, ride_word};
 ghost use Rattle.feed_rows.specs.UsageFaults.{unless_fault};
 ghost use Rattle.feed_rows.specs.declared.usage.UsageFault.TheVariants as usage;
-ghost use Rattle.transit_base.specs.Limits.{most_time};
 ghost use Rattle.plan_words.specs.Rides.{ride_of, parts_of, texts_of, rides_of, IsUsualRide, AreUsualRides};
 
 use crate::values::{date_in, number_in};
 use feed_rows::UsageFault;
-use feed_text::time_of;
-use transit_base::{Day, MOST_TIME};
+use feed_text::start_in;
+use transit_base::Day;
 
 /// A ride, as its word names it.
 #[derive(Clone, Copy)]
@@ -103,18 +103,6 @@ fn parts_of(word: &[u8]) -> Option<RideParts<'_>>
     })
 }
 
-// The first departure of a run, or `-` where none is given.
-fn start_in(text: &[u8]) -> Option<Option<u32>>
-    ensures value { result ≡ start_value text.now }
-    ensures high { IfSome result (λ start. IfSome start (λ s. s ≤ most_time)) }
-{
-    if text == b"-".as_slice() {
-        return Some(None);
-    }
-    let start = time_of(text, MOST_TIME)?;
-    Some(Some(start))
-}
-
 // A stop_sequence.
 fn sequence_in(text: &[u8]) -> Option<u32>
     ensures value { result ≡ sequence_value text.now }
@@ -171,7 +159,7 @@ fn first_unread(texts: &[&str]) -> Option<usize>
 /// The rides that one to eight words name, or the first word that names none, counted from 1.
 pub(crate) fn rides_in(texts: Vec<&str>) -> Result<RideWords<'_>, UsageFault>
     requires some { 1 ≤ length texts.items }
-    requires few { length texts.items ≤ 8 }
+    requires few { length texts.items ≤ most_rides }
     ensures value { unless_fault result (λ rides. Ok (rides_of rides)) ≡ read_each ride_word usage.BadRide (texts_of texts.entry.items) }
     ensures usual { IfOk result AreUsualRides }
 {

@@ -1,116 +1,30 @@
 -- The laws of labels: to cover is reflexive and transitive, and so is to be as good as another label of the class.
-use Rattle.std.specs.Prelude.{◌≡◌, ℕ, Bool, true, false, ◌==◌, nat_le, Option, Some, None, ℤ, ◌+ℤ◌, ◌≤ℤ◌, int_le}
-use Rattle.std.proofs.Common.{refl, sym, ◌∙◌, ap, subst, ◌≤◌, ◌⊎◌, inl, inr, arith}
-use Rattle.std.specs.Cmp.{IsEquivalence}
+use Rattle.std.specs.Prelude.{◌≡◌, ℕ, true, ◌==◌, nat_le, Option, ℤ, ◌+ℤ◌, ◌≤ℤ◌, int_le}
+use Rattle.std.proofs.Common.{refl, ◌∙◌, ap, ◌≤◌, arith}
+use Rattle.std.specs.Bool.{Decides}
+use Rattle.std.specs.Cmp.{IsEquivalence, decided}
 use Rattle.std.proofs.lemmas.Int.{ints}
-use Rattle.std.proofs.lemmas.Bool.{and_parts, and_from, cases_Bool, eqb-true, eq-eqb}
-use Rattle.std.proofs.lemmas.Bool.Decides.{nat_tests}
+use Rattle.std.proofs.lemmas.Bool.{and_parts, and_from, eqb-true, eq-eqb}
+use Rattle.std.proofs.lemmas.Bool.Decides.{Decides-and, Decides-eqb, Decides-like, nat_tests}
 use Rattle.label_order.specs.Labels.{OrderLaws}
-use Rattle.transit_base.specs.declared.moments.Moment.{Moment}
-use Rattle.transit_base.specs.declared.numbers.LegGroupId.{LegGroupId}
 use Rattle.transit_base.specs.declared.numbers.StopId.{StopId}
 use Rattle.feed_rows.specs.declared.states.FareState.{FareState}
 use Rattle.feed_rows.specs.LabelCover.{Covers}
-use Rattle.plain_laws.proofs.Laws.{int_same-true, eq-int_same}
+use Rattle.feed_laws.proofs.SameStates.{same_parts_decides}
+use Rattle.plain_laws.proofs.Decisions.{option_eq_decides}
 use Rattle.round_labels.specs.declared.kept_label.KeptLabel.{KeptLabel}
 use Rattle.round_labels.specs.declared.label.Label.{Label}
 use Rattle.round_labels.specs.declared.label_class.LabelClass.{LabelClass}
 use Rattle.round_labels.specs.Kept.{comes_no_later, is_as_good, is_no_dearer}
-use Rattle.round_labels.specs.Labels.{facts_of, same_group, same_moment, same_flag, same_parts, same_state, is_no_later, costs_no_more, covers, class_of, same_class, class_input}
+use Rattle.round_labels.specs.Labels.{facts_of, same_parts, same_state, is_no_later, costs_no_more, covers, class_of, same_class, class_input}
 
--- ---- states
-
-same_group-equal : (a b : Option LegGroupId) → same_group a b ≡ true → a ≡ b
-unfolding same_group
-same_group-equal None None same = refl
-same_group-equal None (Some h) same = absurd (cc)
-same_group-equal (Some g) None same = absurd (cc)
-same_group-equal (Some g) (Some h) same = ap (λ (n : ℕ). Some (record { 0 = n })) (eqb-true g.0 h.0 same)
-
-same_group-itself : (a : Option LegGroupId) → same_group a a ≡ true
-unfolding same_group
-same_group-itself None = refl
-same_group-itself (Some g) = eq-eqb g.0 g.0 refl
-
-same_moment-equal : (a b : Option Moment) → same_moment a b ≡ true → a ≡ b
-unfolding same_moment
-same_moment-equal None None same = refl
-same_moment-equal None (Some h) same = absurd (cc)
-same_moment-equal (Some g) None same = absurd (cc)
-same_moment-equal (Some g) (Some h) same = ap (λ (n : ℤ). Some (record { 0 = n })) (int_same-true g.0 h.0 same)
-
-same_moment-itself : (a : Option Moment) → same_moment a a ≡ true
-unfolding same_moment
-same_moment-itself None = refl
-same_moment-itself (Some g) = eq-int_same g.0 g.0 refl
-
-same_flag-equal : (a b : Bool) → same_flag a b ≡ true → a ≡ b
-same_flag-equal true true same = refl
-same_flag-equal false false same = refl
-same_flag-equal true false same = absurd (cc)
-same_flag-equal false true same = absurd (cc)
-
-same_flag-itself : (a : Bool) → same_flag a a ≡ true
-same_flag-itself true = refl
-same_flag-itself false = refl
-
-state_of : Option LegGroupId → ℕ → Option Moment → Option Moment → Bool → FareState
-state_of group count departure arrival first =
-    record { group = group; count = count; departure = departure; arrival = arrival; first = first }
-
-state_equal : (g h : Option LegGroupId) (c k : ℕ) (d e a b : Option Moment) (f l : Bool) → g ≡ h → c ≡ k → d ≡ e → a ≡ b → f ≡ l →
-    state_of g c d a f ≡ state_of h k e b l
-state_equal g h c k d e a b f l p q r s t = rw (p, q, r, s, t) refl
+-- ---- states and classes
 
 pub same_parts-equal : (a b : FareState) → same_parts a b ≡ true → a ≡ b
-unfolding same_parts state_of
-same_parts-equal a b same =
-    let four = and_parts _ (same_flag a.first b.first) same in
-    let three = and_parts _ (same_moment a.arrival b.arrival) four.0 in
-    let two = and_parts _ (same_moment a.departure b.departure) three.0 in
-    let one = and_parts _ (a.count == b.count) two.0 in
-    state_equal a.group b.group a.count b.count a.departure b.departure a.arrival b.arrival a.first b.first
-    (same_group-equal _ _ one.0) (eqb-true a.count b.count one.1) (same_moment-equal _ _ two.1)
-    (same_moment-equal _ _ three.1) (same_flag-equal _ _ four.1)
+same_parts-equal a b = (same_parts_decides a b).0
 
-pub same_parts-itself : (a : FareState) → same_parts a a ≡ true
-unfolding same_parts
-same_parts-itself a =
-    and_from _ _
-    (and_from _ _
-    (and_from _ _
-    (and_from _ _ (same_group-itself a.group) (eq-eqb a.count a.count refl))
-    (same_moment-itself a.departure))
-    (same_moment-itself a.arrival))
-    (same_flag-itself a.first)
-
-pub same_state-equal : (a b : Option FareState) → same_state a b ≡ true → a ≡ b
-unfolding same_state
-same_state-equal None None same = refl
-same_state-equal None (Some t) same = absurd (cc)
-same_state-equal (Some s) None same = absurd (cc)
-same_state-equal (Some s) (Some t) same = ap Some (same_parts-equal s t same)
-
-pub same_state-itself : (a : Option FareState) → same_state a a ≡ true
-unfolding same_state
-same_state-itself None = refl
-same_state-itself (Some s) = same_parts-itself s
-
--- a test that tells what is the same, and holds for what is, is an equivalence
-pub equivalence_of : {K : Type 0} (same : K → K → Bool) → ((a b : K) → same a b ≡ true → a ≡ b) → ((a : K) → same a a ≡ true) →
-    IsEquivalence same
-equivalence_of same equal itself = record {
-  refl = itself;
-  symm = λ x y. by x y (cases_Bool (same x y)) (cases_Bool (same y x));
-  congr = λ x y z h. ap (λ w. same w z) (equal x y h);
-}
-  where
-    by : (x y : _) → (same x y ≡ true) ⊎ (same x y ≡ false) → (same y x ≡ true) ⊎ (same y x ≡ false) → same x y ≡ same y x
-    by x y (inl h) other = rw (equal x y h) refl
-    by x y (inr h) (inl g) = rw (equal y x g) refl
-    by x y (inr h) (inr g) = h ∙ sym g
-
--- ---- classes
+same_state_decides : (a b : Option FareState) → Decides (same_state a b) (a ≡ b)
+same_state_decides = option_eq_decides same_parts same_parts_decides
 
 class_at : ℕ → Option FareState → LabelClass
 class_at stop state = record { stop = record { 0 = stop }; state = state }
@@ -118,18 +32,20 @@ class_at stop state = record { stop = record { 0 = stop }; state = state }
 class_equal : (m n : ℕ) (s t : Option FareState) → m ≡ n → s ≡ t → class_at m s ≡ class_at n t
 class_equal m n s t p q = rw (p, q) refl
 
-pub same_class-equal : (a b : LabelClass) → same_class a b ≡ true → a ≡ b
+same_class_decides : (a b : LabelClass) → Decides (same_class a b) (a ≡ b)
 unfolding class_at
-same_class-equal a b h =
-    let both = and_parts (a.stop.0 == b.stop.0) (same_state a.state b.state) h in
-    class_equal a.stop.0 b.stop.0 a.state b.state (eqb-true a.stop.0 b.stop.0 both.0)
-    (same_state-equal a.state b.state both.1)
+same_class_decides a b =
+    Decides-like (same_class a b)
+    (λ (both : (a.stop.0 ≡ b.stop.0) × (a.state ≡ b.state)). class_equal a.stop.0 b.stop.0 a.state b.state both.0 both.1)
+    (λ same. (ap (λ (c : LabelClass). c.stop.0) same, ap (λ (c : LabelClass). c.state) same))
+    (Decides-and (a.stop.0 == b.stop.0) (same_state a.state b.state) (Decides-eqb a.stop.0 b.stop.0)
+    (same_state_decides a.state b.state))
 
-same_class-itself : (a : LabelClass) → same_class a a ≡ true
-same_class-itself a = and_from _ _ (eq-eqb a.stop.0 a.stop.0 refl) (same_state-itself a.state)
+pub same_class-equal : (a b : LabelClass) → same_class a b ≡ true → a ≡ b
+same_class-equal a b = (same_class_decides a b).0
 
 pub class_equivalence : IsEquivalence same_class
-class_equivalence = equivalence_of same_class same_class-equal same_class-itself
+class_equivalence = decided same_class same_class_decides
 
 -- a hash reads the same of the same class
 pub class_input-same : (a b : LabelClass) → same_class a b ≡ true → class_input a ≡ class_input b
@@ -164,7 +80,7 @@ covers-tells a b h =
       rides = few_true _ _ rides.1;
       paid = le_true _ _ costs.0;
       price = le_true _ _ costs.1;
-      state = same_state-equal _ _ state.1;
+      state = (same_state_decides a.state b.state).0 state.1;
     }
 
 -- and when it holds
@@ -177,7 +93,7 @@ covers-holds a b c =
     (and_from _ _ (eq-eqb a.stop.0 b.stop.0 (ap (λ (s : StopId). s.0) c.stop)) (true_le _ _ c.arrival))
     (true_few _ _ c.rides))
     (and_from _ _ (true_le _ _ c.paid) (true_le _ _ c.price)))
-    (subst (λ s. same_state a.state s ≡ true) c.state (same_state-itself a.state))
+    ((same_state_decides a.state b.state).1 c.state)
 
 le_trans : (x y z : ℤ) → x ≤ℤ y → y ≤ℤ z → x ≤ℤ z
 le_trans x y z p q = omega (arith, ints, p, q)
@@ -219,7 +135,7 @@ pub class_covered : (a b : Label) → covers a b ≡ true → same_class (class_
 class_covered a b h =
     let c = covers-tells a b h in
     and_from _ _ (eq-eqb a.stop.0 b.stop.0 (ap (λ (s : StopId). s.0) c.stop))
-    (subst (λ s. same_state a.state s ≡ true) c.state (same_state-itself a.state))
+    ((same_state_decides a.state b.state).1 c.state)
 
 -- ---- labels as they are kept
 

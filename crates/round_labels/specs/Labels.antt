@@ -1,6 +1,7 @@
 -- Labels as the program keeps them.
-use Rattle.std.specs.Prelude.{ℕ, ◌+◌, ◌*◌, ◌^◌, ◌≤◌, ◌==◌, Bool, true, false, not, ◌&&◌, nat_le, int_le, List, [], ◌++◌, map, Option, Some, None, ℤ, pos, ◌+ℤ◌, nat_abs}
+use Rattle.std.specs.Prelude.{ℕ, ◌+◌, ◌*◌, ◌^◌, ◌≤◌, ◌==◌, Bool, ◌&&◌, nat_le, int_le, List, [], ◌++◌, map, Option, Some, None, ℤ, pos, ◌+ℤ◌, nat_abs}
 use Rattle.std.specs.Hash as fed
+use Rattle.std.specs.Option.{option_eq}
 use Rattle.transit_base.specs.declared.moments.Moment.{Moment}
 use Rattle.transit_base.specs.declared.numbers.LegGroupId.{LegGroupId}
 use Rattle.transit_base.specs.declared.numbers.StopId.{StopId}
@@ -11,7 +12,7 @@ use Rattle.feed_rows.specs.declared.states.FareState.{FareState}
 use Rattle.feed_rows.specs.declared.states.Move.{Move}
 use Rattle.feed_rows.specs.PartialJourneys.{LabelFacts}
 use Rattle.feed_rows.specs.RoundTables.{Label as Kept}
-use Rattle.plain_laws.specs.Plain.{int_same}
+pub use Rattle.feed_rows.specs.SameStates.{same_parts}
 use Rattle.feed_rows.specs.JourneyStands.{Stand}
 use Rattle.round_laws.specs.LabelSteps.{stand_of_facts}
 use Rattle.round_labels.specs.declared.label.Label.{Label}
@@ -86,40 +87,9 @@ pub record IsSmall (move : Move) : Type 0 where
 
 -- ---- which label is as good as another
 
--- both groups are there and equal, or neither is there
-unfoldable pub same_group : Option LegGroupId → Option LegGroupId → Bool
-same_group (Some a) (Some b) = a.0 == b.0
-same_group None None = true
-same_group (Some a) None = false
-same_group None (Some b) = false
-
--- the same of moments
-unfoldable pub same_moment : Option Moment → Option Moment → Bool
-same_moment (Some a) (Some b) = int_same a.0 b.0
-same_moment None None = true
-same_moment (Some a) None = false
-same_moment None (Some b) = false
-
--- both flags are set, or neither is
-abbrev pub same_flag : Bool → Bool → Bool
-same_flag true b = b
-same_flag false b = not b
-
--- each part of the states is the same
-unfoldable pub same_parts : FareState → FareState → Bool
-same_parts a b =
-    same_group a.group b.group
-    && (a.count == b.count)
-    && same_moment a.departure b.departure
-    && same_moment a.arrival b.arrival
-    && same_flag a.first b.first
-
 -- both states are there and the same, or neither is there
-unfoldable pub same_state : Option FareState → Option FareState → Bool
-same_state (Some a) (Some b) = same_parts a b
-same_state None None = true
-same_state (Some a) None = false
-same_state None (Some b) = false
+abbrev pub same_state : Option FareState → Option FareState → Bool
+same_state = option_eq same_parts
 
 -- at the same stop the one arrives no later, by no more rides
 unfoldable pub is_no_later : Label → Label → Bool

@@ -1,42 +1,18 @@
 -- Last moves that test as the same are the same.
-use Rattle.std.specs.Prelude.{◌≡◌, ℕ, true, ◌==◌, Option, Some, None, ℤ}
+use Rattle.std.specs.Prelude.{◌≡◌, ℕ, true, Option, ℤ}
 use Rattle.std.proofs.Common.{refl, ap}
-use Rattle.std.specs.Cmp.{IsEquivalence}
-use Rattle.std.proofs.lemmas.Bool.{and_parts, and_from, eqb-true, eq-eqb}
+use Rattle.std.specs.Bool.{Decides}
+use Rattle.std.specs.Cmp.{IsEquivalence, decided}
+use Rattle.std.proofs.lemmas.Bool.Decides.{Decides-like}
 use Rattle.transit_base.specs.declared.numbers.ProductRowId.{ProductRowId}
 use Rattle.transit_base.specs.declared.numbers.XferId.{XferId}
 use Rattle.feed_rows.specs.declared.states.FareState.{FareState}
 use Rattle.feed_rows.specs.declared.states.Move.{Move}
-use Rattle.plain_laws.specs.Plain.{int_same}
-use Rattle.plain_laws.proofs.Laws.{int_same-true, eq-int_same}
+use Rattle.feed_rows.specs.SameStates.{same_parts}
+use Rattle.feed_laws.proofs.SameStates.{same_parts_decides}
+use Rattle.plain_laws.proofs.Decisions.{Test, both, int_equals, is, likewise, option_eq_decides, same_field}
 use Rattle.round_labels.specs.declared.last_move.LastMove.{LastMove}
-use Rattle.round_labels.specs.CoverLaws.{equivalence_of, same_parts-equal, same_parts-itself}
-use Rattle.round_labels.specs.Labels.{same_parts}
-use Rattle.round_labels.specs.LastMoves.{last_input, same_last, same_move, same_pay, same_product, same_taken, same_xfer}
-
-same_xfer-equal : (a b : Option XferId) → same_xfer a b ≡ true → a ≡ b
-unfolding same_xfer
-same_xfer-equal None None same = refl
-same_xfer-equal None (Some h) same = absurd (cc)
-same_xfer-equal (Some g) None same = absurd (cc)
-same_xfer-equal (Some g) (Some h) same = ap (λ (n : ℕ). Some (record { 0 = n })) (eqb-true g.0 h.0 same)
-
-same_xfer-itself : (a : Option XferId) → same_xfer a a ≡ true
-unfolding same_xfer
-same_xfer-itself None = refl
-same_xfer-itself (Some g) = eq-eqb g.0 g.0 refl
-
-same_product-equal : (a b : Option ProductRowId) → same_product a b ≡ true → a ≡ b
-unfolding same_product
-same_product-equal None None same = refl
-same_product-equal None (Some h) same = absurd (cc)
-same_product-equal (Some g) None same = absurd (cc)
-same_product-equal (Some g) (Some h) same = ap (λ (n : ℕ). Some (record { 0 = n })) (eqb-true g.0 h.0 same)
-
-same_product-itself : (a : Option ProductRowId) → same_product a a ≡ true
-unfolding same_product
-same_product-itself None = refl
-same_product-itself (Some g) = eq-eqb g.0 g.0 refl
+use Rattle.round_labels.specs.LastMoves.{last_input, same_last, same_move}
 
 move_of : FareState → ℤ → ℤ → ℕ → ℕ → Option XferId → Option ProductRowId → Move
 move_of state paid held rule product xfer xfer_product =
@@ -54,54 +30,53 @@ move_equal : (s t : FareState) (p q h g : ℤ) (r u m n : ℕ) (x y : Option Xfe
     s ≡ t → p ≡ q → h ≡ g → r ≡ u → m ≡ n → x ≡ y → z ≡ w → move_of s p h r m x z ≡ move_of t q g u n y w
 move_equal s t p q h g r u m n x y z w a b c d e f i = rw (a, b, c, d, e, f, i) refl
 
-same_move-equal : (a b : Move) → same_move a b ≡ true → a ≡ b
-unfolding same_move same_pay move_of
-same_move-equal a b same =
-    let three = and_parts _ (same_parts a.state b.state) same in
-    let two = and_parts _ (same_pay a b) three.0 in
-    let one = and_parts _ (int_same a.held.0 b.held.0) two.0 in
-    let pays = and_parts _ (same_product a.xfer_product b.xfer_product) two.1 in
-    let rules = and_parts _ (same_xfer a.xfer b.xfer) pays.0 in
-    let rows = and_parts _ (a.product.0 == b.product.0) rules.0 in
+same_move_decides : (a b : Move) → Decides (same_move a b) (a ≡ b)
+unfolding same_move move_of
+same_move_decides a b =
+    let state : Test (a.state ≡ b.state) =
+    record { passes = same_parts a.state b.state; decides = same_parts_decides a.state b.state } in
+    let xfer : Test (a.xfer ≡ b.xfer) = same_field (λ x. x.0) (λ x y e. ap (λ n. record { 0 = n }) e) a.xfer b.xfer in
+    let product : Test (a.xfer_product ≡ b.xfer_product) =
+    same_field (λ x. x.0) (λ x y e. ap (λ n. record { 0 = n }) e) a.xfer_product b.xfer_product in
+    let test : Test (a ≡ b) =
+    likewise
+    (both (both (both (both (both (both state (int_equals a.paid.0 b.paid.0)) (int_equals a.held.0 b.held.0))
+    (is a.rule.0 b.rule.0)) (is a.product.0 b.product.0)) xfer) product)
+    (λ all.
     move_equal a.state b.state a.paid.0 b.paid.0 a.held.0 b.held.0 a.rule.0 b.rule.0 a.product.0 b.product.0 a.xfer b.xfer
     a.xfer_product b.xfer_product
-    (same_parts-equal _ _ three.1) (int_same-true a.paid.0 b.paid.0 one.0) (int_same-true a.held.0 b.held.0 one.1)
-    (eqb-true a.rule.0 b.rule.0 rows.0) (eqb-true a.product.0 b.product.0 rows.1) (same_xfer-equal _ _ rules.1)
-    (same_product-equal _ _ pays.1)
+    all.0.0.0.0.0.0 all.0.0.0.0.0.1 all.0.0.0.0.1 all.0.0.0.1 all.0.0.1 all.0.1 all.1)
+    (λ same. (
+      (
+        (
+          (
+            (
+              (
+                ap (λ (m : Move). m.state) same,
+                ap (λ (m : Move). m.paid.0) same,
+              ),
+              ap (λ (m : Move). m.held.0) same,
+            ),
+            ap (λ (m : Move). m.rule.0) same,
+          ),
+          ap (λ (m : Move). m.product.0) same,
+        ),
+        ap (λ (m : Move). m.xfer) same,
+      ),
+      ap (λ (m : Move). m.xfer_product) same,
+    )) in
+    test.decides
 
-same_move-itself : (a : Move) → same_move a a ≡ true
-unfolding same_move same_pay
-same_move-itself a =
-    and_from _ _
-    (and_from _ _
-    (and_from _ _ (eq-int_same a.paid.0 a.paid.0 refl) (eq-int_same a.held.0 a.held.0 refl))
-    (and_from _ _
-    (and_from _ _
-    (and_from _ _ (eq-eqb a.rule.0 a.rule.0 refl) (eq-eqb a.product.0 a.product.0 refl))
-    (same_xfer-itself a.xfer))
-    (same_product-itself a.xfer_product)))
-    (same_parts-itself a.state)
-
-same_taken-equal : (a b : Option Move) → same_taken a b ≡ true → a ≡ b
-unfolding same_taken
-same_taken-equal None None same = refl
-same_taken-equal None (Some t) same = absurd (cc)
-same_taken-equal (Some s) None same = absurd (cc)
-same_taken-equal (Some s) (Some t) same = ap Some (same_move-equal s t same)
-
-same_taken-itself : (a : Option Move) → same_taken a a ≡ true
-unfolding same_taken
-same_taken-itself None = refl
-same_taken-itself (Some s) = same_move-itself s
+same_last_decides : (a b : LastMove) → Decides (same_last a b) (a ≡ b)
+same_last_decides a b =
+    Decides-like (same_last a b) (ap (λ (t : Option Move). record { 0 = t })) (ap (λ (l : LastMove). l.0))
+    (option_eq_decides same_move same_move_decides a.0 b.0)
 
 pub same_last-equal : (a b : LastMove) → same_last a b ≡ true → a ≡ b
-same_last-equal a b same = ap (λ (t : Option Move). record { 0 = t }) (same_taken-equal a.0 b.0 same)
-
-same_last-itself : (a : LastMove) → same_last a a ≡ true
-same_last-itself a = same_taken-itself a.0
+same_last-equal a b = (same_last_decides a b).0
 
 pub last_equivalence : IsEquivalence same_last
-last_equivalence = equivalence_of same_last same_last-equal same_last-itself
+last_equivalence = decided same_last same_last_decides
 
 -- a hash reads the same of the same move
 pub last_input-same : (a b : LastMove) → same_last a b ≡ true → last_input a ≡ last_input b

@@ -1,12 +1,13 @@
 //! What a search by rounds keeps of a partial journey.
 ghost use Rattle.std.specs.Prelude.{◌≡◌, ◌+◌, ◌+ℤ◌, ◌<◌, ◌≤◌, ◌^◌, Some, nat_abs};
+ghost use Rattle.feed_rows.specs.Limits.{most_rides};
 ghost use Rattle.feed_timetable.specs.Standings.{stand_of};
-ghost use Rattle.round_labels.specs.Labels.{IsBounded, IsSmall, class_of, same_flag, same_group, same_moment, same_parts, same_state, stand_of_label, started, went_on};
+ghost use Rattle.round_labels.specs.Labels.{IsBounded, IsSmall, class_of, same_parts, stand_of_label, started, went_on};
 
 use crate::label_class::LabelClass;
 use feed_rows::{FareState, Move, Query, Ride, RideFacts};
 use feed_timetable::Standing;
-use transit_base::{LegGroupId, Moment, Money, StopId};
+use transit_base::{Moment, Money, StopId};
 
 /// A partial journey of a query, as a search by rounds compares it with others, and the step that led to it.
 #[derive(Clone, Copy)]
@@ -51,7 +52,7 @@ impl Label {
 
     /// The label after one more ride of these facts, where this one has the number.
     pub fn after(&self, number: u32, ride: &Ride, facts: &RideFacts, taken: &Move) -> Label
-        requires few { self.now.rides < 8 }
+        requires few { self.now.rides < most_rides }
         requires bounded { IsBounded self.now }
         requires small { IsSmall taken.now }
         ensures value { result ≡ went_on self.now number ride.now facts.now taken.now }
@@ -108,57 +109,10 @@ impl Label {
     }
 }
 
-/// Whether both states are there and the same, or neither is there.
-#[tactic(auto, unfolding(crate::specs::Labels::same_state))]
-pub(crate) fn same_state(a: &Option<FareState>, b: &Option<FareState>) -> bool
-    ensures { result ≡ same_state a.now b.now }
-{
-    match (a, b) {
-        (Some(one), Some(other)) => same_parts(one, other),
-        (None, None) => true,
-        _ => false,
-    }
-}
-
 /// Whether each part of the states is the same.
-#[tactic(auto, unfolding(crate::specs::Labels::same_parts))]
+#[tactic(auto, unfolding(feed_rows::specs::SameStates::same_parts))]
 pub fn same_parts(a: &FareState, b: &FareState) -> bool
     ensures { result ≡ same_parts a.now b.now }
 {
-    same_group(a.group, b.group)
-        && a.count == b.count
-        && same_moment(a.departure, b.departure)
-        && same_moment(a.arrival, b.arrival)
-        && same_flag(a.first, b.first)
-}
-
-/// Whether both flags are set, or neither is.
-fn same_flag(a: bool, b: bool) -> bool
-    ensures { result ≡ same_flag a b }
-{
-    if a { b } else { !b }
-}
-
-/// Whether both groups are there and equal, or neither is there.
-#[tactic(auto, unfolding(crate::specs::Labels::same_group))]
-fn same_group(a: Option<LegGroupId>, b: Option<LegGroupId>) -> bool
-    ensures { result ≡ same_group a b }
-{
-    match (a, b) {
-        (Some(one), Some(other)) => one.0 == other.0,
-        (None, None) => true,
-        _ => false,
-    }
-}
-
-/// Whether both moments are there and equal, or neither is there.
-#[tactic(auto, unfolding(crate::specs::Labels::same_moment))]
-fn same_moment(a: Option<Moment>, b: Option<Moment>) -> bool
-    ensures { result ≡ same_moment a b }
-{
-    match (a, b) {
-        (Some(one), Some(other)) => one.0 == other.0,
-        (None, None) => true,
-        _ => false,
-    }
+    *a == *b
 }

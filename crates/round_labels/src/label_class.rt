@@ -3,7 +3,6 @@ ghost use Rattle.std.specs.Prelude.{◌≡◌};
 ghost use Rattle.std.specs.Cmp.{partial_equiv_from_equiv};
 ghost use Rattle.round_labels.specs.Labels.{group_number, moment_number};
 
-use crate::label::same_state;
 use feed_rows::FareState;
 use std::hash::{Hash, Hasher};
 use transit_base::{LegGroupId, Moment, StopId};
@@ -23,8 +22,9 @@ impl PartialEq for LabelClass {
 
     ghost laws = { partial_equiv_from_equiv class_equivalence };
 
+    #[tactic(auto, unfolding(feed_rows::specs::SameStates::same_parts))]
     fn eq(&self, other: &Self) -> bool {
-        self.stop.0 == other.stop.0 && same_state(&self.state, &other.state)
+        self.stop == other.stop && self.state == other.state
     }
 }
 

@@ -117,13 +117,13 @@ found_upward finals a b below some = (some.0, some.1, some.2, some.3, at_most-tr
 
 -- what is found, by finals or else
 module _ (feed : FeedRows) (query : Query) (whole : Bool) (table : RoundTable) (sound : IsSoundFeed feed)
-    (Found : Triple → Type 0) (upward : IsUpward Found) (by_finals : (t : Triple) → IsFound table.finals t → Found t)
+    (FoundTriple : Triple → Type 0) (upward : IsUpward FoundTriple) (by_finals : (t : Triple) → IsFound table.finals t → FoundTriple t)
     (linked : AreLinked feed query table.labels) (starts : CoversStarts feed query table.labels)
-    (closed : AreClosed feed query (MayLack feed query whole Found) table.labels)
+    (closed : AreClosed feed query (MayLack feed query whole FoundTriple) table.labels)
     (finals : AreFinals feed query table.labels table.finals) where
   -- an end of facts that are covered is found
   covered_found : (a : LabelFacts) (last : StopId) (triple : Triple) → IsStated a → IsCoveredBy table.labels a →
-      IsLabelEnd feed query a last triple → Found triple
+      IsLabelEnd feed query a last triple → FoundTriple triple
   covered_found a last triple stated' some end =
       let c = coverer table.labels a some in
       let stated = linked_stated feed query (take c.number table.labels) c.label (linked c.number c.label c.is) in
@@ -132,13 +132,13 @@ module _ (feed : FeedRows) (query : Query) (whole : Bool) (table : RoundTable) (
       upward b.triple triple b.below (by_finals b.triple (finals.all c.label last b.triple is_label b.end))
 
   -- so is what each entry of the query comes to
-  pub each_found : (entry : Entry) → IsEntry feed query entry → Found entry.triple
+  pub each_found : (entry : Entry) → IsEntry feed query entry → FoundTriple entry.triple
   each_found entry is =
       let n = end_of_entry feed query entry sound is in
       let part = part_of_entry entry in
       ⊎_elim (λ some. covered_found n.a entry.journey.last entry.triple (stated_of_part feed query part n.a n.has) some n.end)
-      (λ lack. lack_futile feed query sound Found upward whole n.a lack 0 entry.triple (entry.journey.last, n.end))
-      (all_served feed query sound Found upward whole table.labels linked starts closed part n.a n.has)
+      (λ lack. lack_futile feed query sound FoundTriple upward whole n.a lack 0 entry.triple (entry.journey.last, n.end))
+      (all_served feed query sound FoundTriple upward whole table.labels linked starts closed part n.a n.has)
 
 module _ (feed : FeedRows) (query : Query) (whole : Bool) (table : RoundTable) (sound : IsSoundFeed feed)
     (linked : AreLinked feed query table.labels) (starts : CoversStarts feed query table.labels)

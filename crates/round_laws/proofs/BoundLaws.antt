@@ -18,8 +18,7 @@ use Rattle.feed_rows.specs.declared.states.FareState.{FareState}
 use Rattle.feed_rows.specs.declared.states.Move.{Move}
 use Rattle.feed_rows.specs.Codes.{change_alone}
 use Rattle.feed_rows.specs.FareFloor.{fare_floor}
-use Rattle.feed_rows.specs.FareStands.{place_kind, frees_first}
-use Rattle.feed_rows.specs.FareSteps.{move_after, place_taken}
+use Rattle.feed_rows.specs.FareSteps.{place_kind, frees_first, move_after, place_taken}
 use Rattle.feed_rows.specs.FeedRows.{FeedRows}
 use Rattle.feed_rows.specs.JourneyStands.{way_to}
 use Rattle.feed_rows.specs.LabelCover.{price_so_far}
@@ -76,19 +75,19 @@ second_false false y e = e
 -- the least price after a step is no less than the one before it with the floor
 least_step : (feed : FeedRows) (query : Query) (whole : Bool) (a b : LabelFacts) (ride : Ride) (move : Move) →
     IsLabelStep feed query a ride move b →
-    (least_price feed whole a +ℤ fare_floor feed query.rider) ≤ℤ least_price feed whole b
+    (least_price feed whole a +ℤ fare_floor feed query.buyer) ≤ℤ least_price feed whole b
 least_step feed query whole a b ride move s =
-    let low = low_move feed query.rider a.state a.paid a.held (leg_facts feed s.facts) move s.pays in
-    subst (λ (b : LabelFacts). (least_price feed whole a +ℤ fare_floor feed query.rider) ≤ℤ least_price feed whole b)
+    let low = low_move feed query.buyer a.state a.paid a.held (leg_facts feed s.facts) move s.pays in
+    subst (λ (b : LabelFacts). (least_price feed whole a +ℤ fare_floor feed query.buyer) ≤ℤ least_price feed whole b)
     (sym s.next) (by a.state s.pays (whole || some_takes_back feed) refl low)
   where
     floor : ℤ
-    floor = fare_floor feed query.rider
+    floor = fare_floor feed query.buyer
 
     price : ℤ
     price = a.paid +ℤ move.paid.0 +ℤ move.held.0
 
-    by : (state : Option FareState) → move_after feed query.rider state a.held (leg_facts feed s.facts) move ≡ Some move →
+    by : (state : Option FareState) → move_after feed query.buyer state a.held (leg_facts feed s.facts) move ≡ Some move →
         (back : Bool) → (whole || some_takes_back feed) ≡ back →
         (int_min a.paid (a.paid +ℤ a.held) +ℤ floor) ≤ℤ int_min (a.paid +ℤ move.paid.0) price →
         ((if back || is_none state then int_min a.paid (a.paid +ℤ a.held) else a.paid +ℤ a.held) +ℤ floor) ≤ℤ
@@ -96,7 +95,7 @@ least_step feed query whole a b ride move s =
     by state pays true is low = low
     by None pays false is low = no_more _ _ _ low (min_second _ _)
     by (Some state) pays false is low =
-        low_price feed query.rider state a.paid a.held (leg_facts feed s.facts) move pays
+        low_price feed query.buyer state a.paid a.held (leg_facts feed s.facts) move pays
         (none_taken feed (place_taken move) (second_false whole (some_takes_back feed) is))
 
 -- so is the least price at the end
@@ -143,8 +142,8 @@ least_below : (feed : FeedRows) (query : Query) (whole : Bool) (a : LabelFacts) 
     least_end feed query whole a ≤ℤ price_so_far a
 unfolding least_end
 least_below feed query whole a =
-    by (least_price feed whole a) (fare_floor feed query.rider) (query.rides - a.rides)
-    (least ((whole || some_takes_back feed) || is_none a.state)) (floor_below feed query.rider)
+    by (least_price feed whole a) (fare_floor feed query.buyer) (query.rides - a.rides)
+    (least ((whole || some_takes_back feed) || is_none a.state)) (floor_below feed query.buyer)
   where
     least : (b : Bool) → (if b then int_min a.paid (price_so_far a) else price_so_far a) ≤ℤ price_so_far a
     least true = min_second _ _
@@ -182,9 +181,9 @@ module _ (feed : FeedRows) (query : Query) (whole : Bool) (sound : IsSoundFeed f
         few = subst (λ (n : ℕ). triple.rides ≤ n) (sym few) t.few;
         cheap = no_more _ _ _ t.cheap
             (subst (λ (n : ℕ). least_end feed query whole a ≤ℤ
-            (least_price feed whole b +ℤ (fare_floor feed query.rider *ℤ pos (query.rides - n))))
+            (least_price feed whole b +ℤ (fare_floor feed query.buyer *ℤ pos (query.rides - n))))
             (sym few) (end_by (least_price feed whole a) (least_price feed whole b)
-            (fare_floor feed query.rider) query.rides a.rides s.rides.few least));
+            (fare_floor feed query.buyer) query.rides a.rides s.rides.few least));
       })
 
   -- so is one that is ahead before the ride
@@ -218,7 +217,7 @@ module _ (feed : FeedRows) (query : Query) (whole : Bool) (sound : IsSoundFeed f
 -- ---- ends of the last ride
 
 -- after the last ride only an end follows
-pub ended_leads : (feed : FeedRows) (query : Query) (Found : Triple → Type 0) (a : LabelFacts) → query.rides ≤ a.rides →
-    ((last : StopId) (triple : Triple) → IsLabelEnd feed query a last triple → Found triple) → IsFutile feed query Found a
-ended_leads feed query Found a last ends zero triple leads = ends leads.0 triple leads.1
-ended_leads feed query Found a last ends (suc n) triple leads = let few = leads.3.rides.few in absurd (omega (arith, last, few))
+pub ended_leads : (feed : FeedRows) (query : Query) (FoundTriple : Triple → Type 0) (a : LabelFacts) → query.rides ≤ a.rides →
+    ((last : StopId) (triple : Triple) → IsLabelEnd feed query a last triple → FoundTriple triple) → IsFutile feed query FoundTriple a
+ended_leads feed query FoundTriple a last ends zero triple leads = ends leads.0 triple leads.1
+ended_leads feed query FoundTriple a last ends (suc n) triple leads = let few = leads.3.rides.few in absurd (omega (arith, last, few))

@@ -69,7 +69,7 @@ module _ (feed : FeedRows) (query : Query) where
   has_places part a h =
       let p = parts_of_facts feed query part a h.facts in
       let long = length_of_legs feed part.rides p.legs p.is in
-      let places = places_of_paid feed query.rider p.legs part.choice
+      let places = places_of_paid feed query.buyer p.legs part.choice
       (part_paid feed query part p.legs h.partial p.is) in
       record { legs = places.0 ∙ long; changes = places.1 ∙ ap (λ (n : ℕ). n - 1) long }
 

@@ -35,7 +35,7 @@ sum_of_paid feed choice = by (fare_sum feed choice) (held_amount feed choice)
 
 -- a partial journey costs what its facts say
 price_of_part : (feed : FeedRows) (query : Query) (part : PartialJourney) (a : LabelFacts) →
-    HasFacts feed query part a → rides_price feed part.rides part.choice query.rider ≡ Some (price_so_far a)
+    HasFacts feed query part a → rides_price feed part.rides part.choice query.buyer ≡ Some (price_so_far a)
 price_of_part feed query part a h =
     let p = parts_of_facts feed query part a h.facts in
     let legs = p.is in

@@ -33,23 +33,23 @@ leads_no_worse feed query (suc n) a b worse stated stated' covers leads =
 
 -- where one triple is found, so is each that it is at most
 abbrev pub IsUpward : (Triple → Type 0) → Type 0
-IsUpward Found = (a b : Triple) → at_most a b ≡ true → Found a → Found b
+IsUpward FoundTriple = (a b : Triple) → at_most a b ≡ true → FoundTriple a → FoundTriple b
 
-module _ (feed : FeedRows) (query : Query) (Found : Triple → Type 0) where
+module _ (feed : FeedRows) (query : Query) (FoundTriple : Triple → Type 0) where
   -- whatever goes on from what is futile is futile
   pub futile_after : (a b : LabelFacts) (ride : Ride) (move : Move) → IsLabelStep feed query a ride move b →
-      IsFutile feed query Found a → IsFutile feed query Found b
+      IsFutile feed query FoundTriple a → IsFutile feed query FoundTriple b
   futile_after a b ride move step futile n triple leads = futile (suc n) triple (ride, move, b, step, leads)
 
   -- so is whatever it covers
-  pub futile_below : IsUpward Found → (a b : LabelFacts) → IsStated a → IsStated b → Covers a b →
-      IsFutile feed query Found a → IsFutile feed query Found b
+  pub futile_below : IsUpward FoundTriple → (a b : LabelFacts) → IsStated a → IsStated b → Covers a b →
+      IsFutile feed query FoundTriple a → IsFutile feed query FoundTriple b
   futile_below upward a b stated stated' covers futile n triple leads =
       let better = leads_no_worse feed query n a b triple stated stated' covers leads in
       upward better.triple triple better.below (futile n better.triple better.leads)
 
 -- what may be lacking still may be where more is found
-pub lack_more : (feed : FeedRows) (query : Query) (whole : Bool) (Found More : Triple → Type 0) (a : LabelFacts) →
-    ((triple : Triple) → Found triple → More triple) → MayLack feed query whole Found a → MayLack feed query whole More a
-lack_more feed query true Found More a more lack = (lack.0, more lack.0 lack.1, lack.2)
-lack_more feed query false Found More a more lack = λ n triple leads. more triple (lack n triple leads)
+pub lack_more : (feed : FeedRows) (query : Query) (whole : Bool) (FoundTriple More : Triple → Type 0) (a : LabelFacts) →
+    ((triple : Triple) → FoundTriple triple → More triple) → MayLack feed query whole FoundTriple a → MayLack feed query whole More a
+lack_more feed query true FoundTriple More a more lack = (lack.0, more lack.0 lack.1, lack.2)
+lack_more feed query false FoundTriple More a more lack = λ n triple leads. more triple (lack n triple leads)

@@ -122,7 +122,7 @@ module _ (feed : FeedRows) (query : Query) (before : PartialJourney) (a : LabelF
 
   -- the partial journey with the new ride, where a move pays it
   partial_too : (move : Move) (legs : List LegFacts) → legs_of feed before.rides ≡ Some legs →
-      Extends feed query.rider legs before.choice (leg_facts feed facts) move →
+      Extends feed query.buyer legs before.choice (leg_facts feed facts) move →
       IsPartialJourney feed query (with_ride before ride move)
   partial_too move legs is e = record {
     starts = has.partial.starts;
@@ -143,7 +143,7 @@ module _ (feed : FeedRows) (query : Query) (before : PartialJourney) (a : LabelF
           let goes = caught.is in
           rw goes (le-int_le facts.arrival.0 (latest query) caught.in_time)
 
-      paid : IsSome (rides_price feed (before.rides ++ ride ∷ []) (extended before.choice move) query.rider)
+      paid : IsSome (rides_price feed (before.rides ++ ride ∷ []) (extended before.choice move) query.buyer)
       paid =
           let known = legs_too legs is in
           let pays = e.pays in
@@ -151,7 +151,7 @@ module _ (feed : FeedRows) (query : Query) (before : PartialJourney) (a : LabelF
 
   -- and its facts
   parts_too : (move : Move) (legs : List LegFacts) → legs_of feed before.rides ≡ Some legs →
-      Extends feed query.rider legs before.choice (leg_facts feed facts) move →
+      Extends feed query.buyer legs before.choice (leg_facts feed facts) move →
       HasParts feed query (with_ride before ride move) (facts_after a facts move)
   parts_too move legs is e =
       let part = with_ride before ride move in
@@ -168,20 +168,20 @@ module _ (feed : FeedRows) (query : Query) (before : PartialJourney) (a : LabelF
 
 -- a move after the facts is one after the choice that they tell of
 move_of_parts : (feed : FeedRows) (query : Query) (part : PartialJourney) (a : LabelFacts) (leg : LegFacts)
-    (move : Move) (p : HasParts feed query part a) → move_after feed query.rider a.state a.held leg move ≡ Some move →
-    IsMoveAfter feed query.rider p.legs part.choice leg move
+    (move : Move) (p : HasParts feed query part a) → move_after feed query.buyer a.state a.held leg move ≡ Some move →
+    IsMoveAfter feed query.buyer p.legs part.choice leg move
 move_of_parts feed query part a leg move p is =
-    subst (λ (h : ℤ). move_after feed query.rider (fare_state feed p.legs part.choice) h leg move ≡ Some move)
+    subst (λ (h : ℤ). move_after feed query.buyer (fare_state feed p.legs part.choice) h leg move ≡ Some move)
     (sym p.held)
-    (subst (λ (s : Option FareState). move_after feed query.rider s a.held leg move ≡ Some move) (sym p.state) is)
+    (subst (λ (s : Option FareState). move_after feed query.buyer s a.held leg move ≡ Some move) (sym p.state) is)
 
 -- and a move after the choice is one after its facts
 pub move_of_choice : (feed : FeedRows) (query : Query) (part : PartialJourney) (a : LabelFacts) (leg : LegFacts)
-    (move : Move) (p : HasParts feed query part a) → IsMoveAfter feed query.rider p.legs part.choice leg move →
-    move_after feed query.rider a.state a.held leg move ≡ Some move
+    (move : Move) (p : HasParts feed query part a) → IsMoveAfter feed query.buyer p.legs part.choice leg move →
+    move_after feed query.buyer a.state a.held leg move ≡ Some move
 move_of_choice feed query part a leg move p is =
-    subst (λ (h : ℤ). move_after feed query.rider a.state h leg move ≡ Some move) p.held
-    (subst (λ (s : Option FareState). move_after feed query.rider s (held_amount feed part.choice) leg move ≡ Some move)
+    subst (λ (h : ℤ). move_after feed query.buyer a.state h leg move ≡ Some move) p.held
+    (subst (λ (s : Option FareState). move_after feed query.buyer s (held_amount feed part.choice) leg move ≡ Some move)
     p.state is)
 
 -- where facts go on by a ride and a move, the partial journey does, and the move is whole
@@ -197,7 +197,7 @@ extend feed query before a ride move b has s =
     let p = parts_of_facts feed query before a has.facts in
     let leg = leg_facts feed s.facts in
     let e =
-    extends_by feed query.rider p.legs before.choice leg move (part_paid feed query before p.legs has.partial p.is)
+    extends_by feed query.buyer p.legs before.choice leg move (part_paid feed query before p.legs has.partial p.is)
     (move_of_parts feed query before a leg move p s.pays) in
     let known =
     facts_of_parts feed query (with_ride before ride move) (facts_after a s.facts move)

@@ -101,7 +101,7 @@ module _ (feed : FeedRows) (query : Query) (first : StopId) (rides : List Ride) 
 
   -- without its last ride a partial journey is one, by a choice that pays the others
   partial_before : (fewer : Choice) (legs : List LegFacts) → IsPartialJourney feed query whole →
-      legs_of feed rides ≡ Some legs → is_fare_choice feed legs fewer query.rider ≡ true →
+      legs_of feed rides ≡ Some legs → is_fare_choice feed legs fewer query.buyer ≡ true →
       IsPartialJourney feed query (front fewer)
   partial_before fewer legs p is pays = record {
     starts = p.starts;
@@ -163,13 +163,13 @@ module _ (feed : FeedRows) (query : Query) (first : StopId) (rides : List Ride) 
 
   -- by a choice for the others and a move the partial journey without its last ride goes on to it
   goes_on_by : (longer : List LegFacts) (l : HasLastLeg feed rides ride longer)
-      (m : IsMadeBy feed query.rider l.legs (leg_facts feed l.facts) choice) (a b : LabelFacts) →
+      (m : IsMadeBy feed query.buyer l.legs (leg_facts feed l.facts) choice) (a b : LabelFacts) →
       HasFacts feed query (front m.choice) a → HasFacts feed query whole b →
       IsLabelStep feed query a ride m.move b
   goes_on_by longer l m a b before h =
       let known = parts_of_facts feed query (front m.choice) a before.facts in
       let is =
-      subst (λ (ls : List LegFacts). IsMoveAfter feed query.rider ls m.choice (leg_facts feed l.facts) m.move)
+      subst (λ (ls : List LegFacts). IsMoveAfter feed query.buyer ls m.choice (leg_facts feed l.facts) m.move)
       (same_Some l.legs known.legs (sym l.is ∙ known.is)) m.is in
       let pays = move_of_choice feed query (front m.choice) a (leg_facts feed l.facts) m.move known is in
       let caught = rode_last m.choice a l.facts h.partial known l.goes in
@@ -186,7 +186,7 @@ module _ (feed : FeedRows) (query : Query) (first : StopId) (rides : List Ride) 
 
   -- so it went on
   went_on_by : (longer : List LegFacts) (l : HasLastLeg feed rides ride longer)
-      (m : IsMadeBy feed query.rider l.legs (leg_facts feed l.facts) choice) (a b : LabelFacts) →
+      (m : IsMadeBy feed query.buyer l.legs (leg_facts feed l.facts) choice) (a b : LabelFacts) →
       HasFacts feed query (front m.choice) a → HasFacts feed query whole b → WentOn feed query whole b (length rides)
   went_on_by longer l m a b before h =
       let known = parts_of_facts feed query (front m.choice) a before.facts in
@@ -206,9 +206,9 @@ module _ (feed : FeedRows) (query : Query) (first : StopId) (rides : List Ride) 
       let p = parts_of_facts feed query whole b h.facts in
       let l = has_last_leg feed rides ride p.legs p.is in
       let paid =
-      subst (λ (ls : List LegFacts). is_fare_choice feed ls choice query.rider ≡ true) l.same
+      subst (λ (ls : List LegFacts). is_fare_choice feed ls choice query.buyer ≡ true) l.same
       (part_paid feed query whole p.legs h.partial p.is) in
-      let m = made_by feed query.rider l.legs (leg_facts feed l.facts) choice paid in
+      let m = made_by feed query.buyer l.legs (leg_facts feed l.facts) choice paid in
       let known = facts_of_partial feed query (front m.choice) (partial_before m.choice l.legs h.partial l.is m.pays) in
       went_on_by p.legs l m known.0 b known.1 h
 

@@ -55,9 +55,9 @@ end_covered : (feed : FeedRows) (query : Query) (a b : LabelFacts) → Covers a 
     least_end feed query true a ≤ℤ least_end feed query true b
 unfolding least_end
 end_covered feed query a b c =
-    both (least_so_far a) (least_so_far b) (fare_floor feed query.rider *ℤ pos (query.rides - a.rides))
-    (fare_floor feed query.rider *ℤ pos (query.rides - b.rides)) (least_covered a b c)
-    (floor_after (fare_floor feed query.rider) query.rides a.rides b.rides (floor_below feed query.rider) c.rides)
+    both (least_so_far a) (least_so_far b) (fare_floor feed query.buyer *ℤ pos (query.rides - a.rides))
+    (fare_floor feed query.buyer *ℤ pos (query.rides - b.rides)) (least_covered a b c)
+    (floor_after (fare_floor feed query.buyer) query.rides a.rides b.rides (floor_below feed query.buyer) c.rides)
   where
     both : (x y z w : ℤ) → x ≤ℤ y → z ≤ℤ w → (x +ℤ z) ≤ℤ (y +ℤ w)
     both x y z w p q = omega (arith, ints, p, q)
@@ -67,7 +67,7 @@ end_lower : (feed : FeedRows) (query : Query) (whole : Bool) (a : LabelFacts) �
     least_end feed query true a ≤ℤ least_end feed query whole a
 unfolding least_end
 end_lower feed query whole a =
-    added (least_so_far a) (least_price feed whole a) (fare_floor feed query.rider *ℤ pos (query.rides - a.rides))
+    added (least_so_far a) (least_price feed whole a) (fare_floor feed query.buyer *ℤ pos (query.rides - a.rides))
     (by ((whole || some_takes_back feed) || is_none a.state))
   where
     by : (b : Bool) → least_so_far a ≤ℤ (if b then least_so_far a else price_so_far a)
@@ -135,17 +135,17 @@ outdone_up feed query less triple a below is =
 
 -- ---- what may be lacking
 
-module _ (feed : FeedRows) (query : Query) (sound : IsSoundFeed feed) (Found : Triple → Type 0)
-    (upward : IsUpward Found) where
+module _ (feed : FeedRows) (query : Query) (sound : IsSoundFeed feed) (FoundTriple : Triple → Type 0)
+    (upward : IsUpward FoundTriple) where
   -- what a triple that is found is ahead of may be lacking
-  pub ahead_lacks : (whole : Bool) (triple : Triple) (a : LabelFacts) → Found triple →
-      is_within a.arrival a.rides (least_end feed query whole a) triple ≡ true → MayLack feed query whole Found a
+  pub ahead_lacks : (whole : Bool) (triple : Triple) (a : LabelFacts) → FoundTriple triple →
+      is_within a.arrival a.rides (least_end feed query whole a) triple ≡ true → MayLack feed query whole FoundTriple a
   ahead_lacks true triple a found ahead = (triple, found, outdone_of_ahead feed query triple a ahead)
   ahead_lacks false triple a found ahead =
       λ n other leads. upward triple other (ahead_leads feed query false sound triple n a other ahead leads) found
 
   -- all that it leads to is found
-  pub lack_futile : (whole : Bool) (a : LabelFacts) → MayLack feed query whole Found a → IsFutile feed query Found a
+  pub lack_futile : (whole : Bool) (a : LabelFacts) → MayLack feed query whole FoundTriple a → IsFutile feed query FoundTriple a
   lack_futile true a lack =
       λ n other leads. upward lack.0 other (outdone_leads feed query lack.0 n a other sound lack.2 leads) lack.1
   lack_futile false a lack = lack
@@ -153,16 +153,16 @@ module _ (feed : FeedRows) (query : Query) (sound : IsSoundFeed feed) (Found : T
   -- so may be whatever goes on from it
   pub lack_after : (whole : Bool) (a b : LabelFacts) (ride : Ride) (move : Move) →
       IsLabelStep feed query a ride move b →
-      MayLack feed query whole Found a → MayLack feed query whole Found b
+      MayLack feed query whole FoundTriple a → MayLack feed query whole FoundTriple b
   lack_after true a b ride move step lack =
       (lack.0, lack.1, outdone_after feed query lack.0 a b ride move sound step lack.2)
-  lack_after false a b ride move step lack = futile_after feed query Found a b ride move step lack
+  lack_after false a b ride move step lack = futile_after feed query FoundTriple a b ride move step lack
 
 -- and whatever it covers
-pub lack_below : (feed : FeedRows) (query : Query) (Found : Triple → Type 0) → IsUpward Found → (whole : Bool)
+pub lack_below : (feed : FeedRows) (query : Query) (FoundTriple : Triple → Type 0) → IsUpward FoundTriple → (whole : Bool)
     (a b : LabelFacts) →
-    IsStated a → IsStated b → Covers a b → MayLack feed query whole Found a → MayLack feed query whole Found b
-lack_below feed query Found upward true a b stated stated' covers lack =
+    IsStated a → IsStated b → Covers a b → MayLack feed query whole FoundTriple a → MayLack feed query whole FoundTriple b
+lack_below feed query FoundTriple upward true a b stated stated' covers lack =
     (lack.0, lack.1, outdone_below feed query lack.0 a b covers lack.2)
-lack_below feed query Found upward false a b stated stated' covers lack =
-    futile_below feed query Found upward a b stated stated' covers lack
+lack_below feed query FoundTriple upward false a b stated stated' covers lack =
+    futile_below feed query FoundTriple upward a b stated stated' covers lack

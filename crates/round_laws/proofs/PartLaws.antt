@@ -3,8 +3,8 @@ use Rattle.std.proofs.Common.{◌≡◌, refl, sym, ◌∙◌, ap, subst, ℕ, z
 use Rattle.std.specs.Prelude.{◌==◌, Option, Some, None, is_none, is_some, IsSome, slice_get, option_map, option_and_then}
 use Rattle.std.proofs.lemmas.Bool.{ne_eqb}
 use Rattle.std.proofs.lemmas.Option.{same_Some, none-some, slice_get-get_or}
-use Rattle.transit_base.specs.declared.numbers.RiderId.{RiderId}
 use Rattle.transit_base.specs.declared.numbers.StopId.{StopId}
+use Rattle.feed_rows.specs.declared.journeys.Buyer.{Buyer}
 use Rattle.feed_rows.specs.declared.fares.Choice.{Choice}
 use Rattle.feed_rows.specs.declared.journeys.LegFacts.{LegFacts}
 use Rattle.feed_rows.specs.declared.journeys.Query.{Query}
@@ -145,21 +145,21 @@ at_last feed query part a i p some =
 -- the choice of a partial journey pays its legs
 pub part_paid : (feed : FeedRows) (query : Query) (part : PartialJourney) (legs : List LegFacts) →
     IsPartialJourney feed query part → legs_of feed part.rides ≡ Some legs →
-    is_fare_choice feed legs part.choice query.rider ≡ true
+    is_fare_choice feed legs part.choice query.buyer ≡ true
 part_paid feed query part legs p is =
-    by (is_fare_choice feed legs part.choice query.rider) (fare_sum feed part.choice) (rw is at p.pays)
+    by (is_fare_choice feed legs part.choice query.buyer) (fare_sum feed part.choice) (rw is at p.pays)
   where
     by : (b : Bool) (sum : ℤ) → is_some (when b sum) ≡ true → b ≡ true
     by true sum some = refl
     by false sum some = absurd (let no : false ≡ true = some in cc)
 
 -- rides that are paid have legs
-legs_of_paid : (feed : FeedRows) (rides : List Ride) (choice : Choice) (rider : Option RiderId) →
-    IsSome (rides_price feed rides choice rider) → (legs : List LegFacts) × (legs_of feed rides ≡ Some legs)
-legs_of_paid feed rides choice rider some = by (legs_of feed rides) refl some
+legs_of_paid : (feed : FeedRows) (rides : List Ride) (choice : Choice) (buyer : Buyer) →
+    IsSome (rides_price feed rides choice buyer) → (legs : List LegFacts) × (legs_of feed rides ≡ Some legs)
+legs_of_paid feed rides choice buyer some = by (legs_of feed rides) refl some
   where
     by : (o : Option (List LegFacts)) → legs_of feed rides ≡ o →
-        is_some (option_and_then (λ legs. fare_price feed legs choice rider) o) ≡ true →
+        is_some (option_and_then (λ legs. fare_price feed legs choice buyer) o) ≡ true →
         (legs : List LegFacts) × (legs_of feed rides ≡ Some legs)
     by None is some = absurd (let no : false ≡ true = some in cc)
     by (Some legs) is some = (legs, is)
@@ -212,7 +212,7 @@ stands_somewhere feed query part legs (suc i) is long =
 pub facts_of_partial : (feed : FeedRows) (query : Query) (part : PartialJourney) → IsPartialJourney feed query part →
     (a : LabelFacts) × HasFacts feed query part a
 facts_of_partial feed query part p =
-    let legs = legs_of_paid feed part.rides part.choice query.rider p.pays in
+    let legs = legs_of_paid feed part.rides part.choice query.buyer p.pays in
     let end = stands_somewhere feed query part legs.0 (length part.rides) legs.1 refl in
     let a : LabelFacts = facts_with feed part end.stop end.time legs.0 in (
       a,
@@ -233,14 +233,14 @@ facts_of_partial feed query part p =
 
 -- ---- fares are in a state where there is a ride
 
-state_of_paid : (feed : FeedRows) (rider : Option RiderId) (legs : List LegFacts) (choice : Choice) →
-    is_fare_choice feed legs choice rider ≡ true → (length legs == 0) ≡ is_none (fare_state feed legs choice)
+state_of_paid : (feed : FeedRows) (buyer : Buyer) (legs : List LegFacts) (choice : Choice) →
+    is_fare_choice feed legs choice buyer ≡ true → (length legs == 0) ≡ is_none (fare_state feed legs choice)
 unfolding fare_state
-state_of_paid feed rider [] choice pays = refl
-state_of_paid feed rider (l ∷ ls) choice pays =
+state_of_paid feed buyer [] choice pays = refl
+state_of_paid feed buyer (l ∷ ls) choice pays =
     let long : length (l ∷ ls) ≡ suc (length ls) = refl in
-    let stands = stand_of_paid feed rider (l ∷ ls) choice (length ls) long pays in
-    let places = (places_of_paid feed rider (l ∷ ls) choice pays).0 in
+    let stands = stand_of_paid feed buyer (l ∷ ls) choice (length ls) long pays in
+    let places = (places_of_paid feed buyer (l ∷ ls) choice pays).0 in
     ne_eqb (length (l ∷ ls)) 0 (λ e. omega (arith, e, long))
     ∙ ap is_none (sym (fare_state-told feed (l ∷ ls) choice (length ls) stands.stand long places stands.of))
 
@@ -250,7 +250,7 @@ pub stated_of_part : (feed : FeedRows) (query : Query) (part : PartialJourney) (
 stated_of_part feed query part a h =
     let p = parts_of_facts feed query part a h.facts in
     ap (λ (n : ℕ). n == 0) (sym p.rides ∙ sym (length_of_legs feed part.rides p.legs p.is))
-    ∙ state_of_paid feed query.rider p.legs part.choice (part_paid feed query part p.legs h.partial p.is)
+    ∙ state_of_paid feed query.buyer p.legs part.choice (part_paid feed query part p.legs h.partial p.is)
     ∙ ap is_none p.state
 
 -- with those at a start

@@ -1,10 +1,10 @@
 -- Partial journeys without rides: the stops of the origin, and no others.
 use Rattle.std.proofs.Common.{◌≡◌, refl, sym, ◌∙◌, ap, subst, true, List, [], arith}
-use Rattle.std.specs.Prelude.{Option, Some, IsTrue, IsSome}
+use Rattle.std.specs.Prelude.{Some, IsTrue, IsSome}
 use Rattle.std.proofs.lemmas.Option.{same_Some}
 use Rattle.std.proofs.lemmas.List.Elements.{All-nil}
-use Rattle.transit_base.specs.declared.numbers.RiderId.{RiderId}
 use Rattle.transit_base.specs.declared.numbers.StopId.{StopId}
+use Rattle.feed_rows.specs.declared.journeys.Buyer.{Buyer}
 use Rattle.feed_rows.specs.declared.fares.Choice.{Choice}
 use Rattle.feed_rows.specs.declared.journeys.LegFacts.{LegFacts}
 use Rattle.feed_rows.specs.declared.journeys.Query.{Query}
@@ -31,10 +31,10 @@ unfolding label_facts legs_of paid_amount held_amount fare_sum fare_state
 start_label_facts feed query stop = refl
 
 -- nothing is due for no rides
-nothing_due : (feed : FeedRows) (rider : Option RiderId) →
-    IsSome (rides_price feed [] (record { legs = []; changes = [] }) rider)
+nothing_due : (feed : FeedRows) (buyer : Buyer) →
+    IsSome (rides_price feed [] (record { legs = []; changes = [] }) buyer)
 unfolding legs_of is_fare_choice
-nothing_due feed rider = refl
+nothing_due feed buyer = refl
 
 -- a stop of the origin is a partial journey without rides
 pub start_has_facts : (feed : FeedRows) (query : Query) (stop : StopId) → IsTrue (stands_for feed query.from stop) →
@@ -47,7 +47,7 @@ start_has_facts feed query stop starts = record {
     begins = refl;
     goes_on = λ i lt. absurd (omega (arith, lt));
     in_time = All-nil (λ (ride : Ride). IsTrue (arrives_in_window feed query ride));
-    pays = nothing_due feed query.rider;
+    pays = nothing_due feed query.buyer;
   };
   facts = start_label_facts feed query stop;
 }
@@ -65,9 +65,9 @@ start_of_facts feed query part a h none =
     let rides = no_item part.rides (p.rides ∙ none) in
     let legs = no_item p.legs (length_of_legs feed part.rides p.legs p.is ∙ p.rides ∙ none) in
     let pays =
-    subst (λ (ls : List LegFacts). is_fare_choice feed ls part.choice query.rider ≡ true) legs
+    subst (λ (ls : List LegFacts). is_fare_choice feed ls part.choice query.buyer ≡ true) legs
     (part_paid feed query part p.legs h.partial p.is) in
-    let same = by part.rides part.choice rides (none_paid feed query.rider part.choice pays) in
+    let same = by part.rides part.choice rides (none_paid feed query.buyer part.choice pays) in
     record {
       starts = h.partial.starts;
       same = same;

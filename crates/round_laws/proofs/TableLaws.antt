@@ -127,14 +127,14 @@ coverer labels facts some = record {
 covered_more : (labels : List Label) (a b : LabelFacts) → IsCoveredBy labels a → Covers a b → IsCoveredBy labels b
 covered_more labels a b some covers = (some.0, some.1, some.2, some.3, covers-trans some.1.facts a b some.4 covers)
 
-module _ (feed : FeedRows) (query : Query) (sound : IsSoundFeed feed) (Found : Triple → Type 0)
-    (upward : IsUpward Found)
+module _ (feed : FeedRows) (query : Query) (sound : IsSoundFeed feed) (FoundTriple : Triple → Type 0)
+    (upward : IsUpward FoundTriple)
     (whole : Bool) (labels : List Label) (linked : AreLinked feed query labels)
     (starts : CoversStarts feed query labels)
-    (closed : AreClosed feed query (MayLack feed query whole Found) labels) where
+    (closed : AreClosed feed query (MayLack feed query whole FoundTriple) labels) where
   -- such facts are covered, or may be lacking
   abbrev pub IsServed : LabelFacts → Type 0
-  IsServed a = IsCoveredBy labels a ⊎ MayLack feed query whole Found a
+  IsServed a = IsCoveredBy labels a ⊎ MayLack feed query whole FoundTriple a
 
   -- so are those where a step leads from a label that covers where it begins
   step_of_label : (c : Label) (number : ℕ) → slice_get labels number ≡ Some c → (a b : LabelFacts) (ride : Ride) (move : Move) →
@@ -143,10 +143,10 @@ module _ (feed : FeedRows) (query : Query) (sound : IsSoundFeed feed) (Found : T
       let stated' = linked_stated feed query (take number labels) c (linked number c is) in
       let f = follow feed query c.facts a ride move b stated' stated covers s in
       let on =
-      All-slice_get (λ (label : Label). CoversSteps feed query (MayLack feed query whole Found) label.facts labels) labels
+      All-slice_get (λ (label : Label). CoversSteps feed query (MayLack feed query whole FoundTriple) label.facts labels) labels
       number c is closed in
       ⊎_elim (λ some. inl (covered_more labels f.b b some f.covers))
-      (λ lack. inr (lack_below feed query Found upward whole f.b b
+      (λ lack. inr (lack_below feed query FoundTriple upward whole f.b b
       (stated_of_step feed query c.facts ride f.move f.b f.step)
       (stated_of_step feed query a ride move b s) f.covers lack))
       (on ride f.move f.b f.step)
@@ -158,7 +158,7 @@ module _ (feed : FeedRows) (query : Query) (sound : IsSoundFeed feed) (Found : T
       let c = coverer labels a some in
       step_of_label c.label c.number c.is a b ride move c.covers stated s
   step_served a b ride move (inr lack) stated s =
-      inr (lack_after feed query sound Found upward whole a b ride move s lack)
+      inr (lack_after feed query sound FoundTriple upward whole a b ride move s lack)
 
   -- so are the facts after each number of rides
   served_after : (n : ℕ) (part : PartialJourney) (a : LabelFacts) → HasFacts feed query part a → a.rides ≡ n → IsServed a

@@ -23,16 +23,16 @@ LeadsBy feed query (suc n) a triple =
 
 -- whatever they lead to is found
 abbrev pub IsFutile : FeedRows → Query → (Triple → Type 0) → LabelFacts → Type 0
-IsFutile feed query Found a = (n : ℕ) (triple : Triple) → LeadsBy feed query n a triple → Found triple
+IsFutile feed query FoundTriple a = (n : ℕ) (triple : Triple) → LeadsBy feed query n a triple → FoundTriple triple
 
 -- some triple that is found outdoes such facts
 abbrev pub IsOutdoneBy : FeedRows → Query → (Triple → Type 0) → LabelFacts → Type 0
-IsOutdoneBy feed query Found a = (triple : Triple) × Found triple × IsTrue (is_outdone feed query triple a)
+IsOutdoneBy feed query FoundTriple a = (triple : Triple) × FoundTriple triple × IsTrue (is_outdone feed query triple a)
 
 -- a search that is to be whole may lack what is outdone, and another whatever is futile
 abbrev pub MayLack : FeedRows → Query → Bool → (Triple → Type 0) → LabelFacts → Type 0
-MayLack feed query true Found a = IsOutdoneBy feed query Found a
-MayLack feed query false Found a = IsFutile feed query Found a
+MayLack feed query true FoundTriple a = IsOutdoneBy feed query FoundTriple a
+MayLack feed query false FoundTriple a = IsFutile feed query FoundTriple a
 
 -- ---- how little it can cost
 
@@ -49,7 +49,7 @@ least_price feed whole a =
 -- the least price at a journey's end
 unfoldable pub least_end : FeedRows → Query → Bool → LabelFacts → ℤ
 least_end feed query whole a =
-    least_price feed whole a +ℤ (fare_floor feed query.rider *ℤ pos (query.rides - a.rides))
+    least_price feed whole a +ℤ (fare_floor feed query.buyer *ℤ pos (query.rides - a.rides))
 
 -- the triple arrives no later than this moment, with no more rides than so many, and costs no more than this
 abbrev pub is_within : ℤ → ℕ → ℤ → Triple → Bool

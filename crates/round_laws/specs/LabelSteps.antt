@@ -63,7 +63,7 @@ pub record IsLabelStep (feed : FeedRows) (query : Query) (a : LabelFacts)
     (ride : Ride) (move : Move) (b : LabelFacts) : Type 0 where
   pub facts : RideFacts
   pub rides : IsCaughtRide feed query a ride facts
-  pub pays : move_after feed query.rider a.state a.held (leg_facts feed facts) move ≡ Some move
+  pub pays : move_after feed query.buyer a.state a.held (leg_facts feed facts) move ≡ Some move
   pub next : b ≡ facts_after a facts move
 
 -- a journey that takes no ride more ends at this stop with this triple

@@ -1,5 +1,5 @@
 -- What the labels of a search end in.
-use Rattle.std.specs.Prelude.{◌≡◌, ℕ, ◌<◌, true, List, length, map, slice_get, All, Some}
+use Rattle.std.specs.Prelude.{◌≡◌, ℕ, ◌<◌, true, List, length, map, slice_get, Some}
 use Rattle.std.specs.List.{list_any}
 use Rattle.transit_base.specs.declared.numbers.StopId.{StopId}
 use Rattle.feed_rows.specs.declared.fares.Triple.{Triple}
@@ -7,6 +7,7 @@ use Rattle.feed_rows.specs.declared.journeys.Query.{Query}
 use Rattle.feed_rows.specs.FeedRows.{FeedRows}
 use Rattle.feed_rows.specs.ParetoTriples.{at_most}
 use Rattle.feed_rows.specs.RoundTables.{Final as KeptFinal}
+use Rattle.plain_laws.specs.Adds.{Adds, AllStay}
 use Rattle.round_laws.specs.LabelSteps.{IsLabelEnd}
 use Rattle.round_laws.specs.LinkedTables.{IsFinal}
 use Rattle.round_table.specs.declared.finals.Final.{Final}
@@ -44,8 +45,6 @@ HasEnds feed query labels finals =
     (triple : Triple) → EndsBelow feed query labels (length labels) triple → is_bettered finals triple
 
 -- what was bettered still is, and so is each triple of this part; the finals are ends of labels
-pub record AddsEnds (feed : FeedRows) (query : Query) (labels : List Label) (Part : Triple → Type 0) (old new : List Final) : Type 0 where
-  pub still : (triple : Triple) → is_bettered old triple → is_bettered new triple
-  pub right : All (λ final. IsFinal feed query (labels_of labels) (final_of final)) old →
-      All (λ final. IsFinal feed query (labels_of labels) (final_of final)) new
-  pub all : (triple : Triple) → Part triple → is_bettered new triple
+abbrev pub AddsEnds : FeedRows → Query → List Label → (Triple → Type 0) → List Final → List Final → Type 0
+AddsEnds feed query labels =
+    Adds (AllStay (λ final. IsFinal feed query (labels_of labels) (final_of final))) is_bettered

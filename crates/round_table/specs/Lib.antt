@@ -1,4 +1,3 @@
 pub mod Entries
-pub mod FinalLaws
 pub mod Finals
 pub mod Tables

@@ -17,7 +17,8 @@ pub struct Final {
 
 impl Ranked for Final {
     ghost use Rattle.feed_rows.specs.ParetoTriples.{at_most, is_before};
-    ghost use Rattle.round_table.specs.FinalLaws.{final_laws};
+    ghost use Rattle.round_table.specs.declared.finals.Final.{Final};
+    ghost use Rattle.pareto_front.specs.TripleLaws.{triple_laws};
 
     ghost at_most = { λ a b. at_most a.triple b.triple };
 
@@ -31,7 +32,7 @@ impl Ranked for Final {
         is_before(self.triple, other.triple)
     }
 
-    ghost laws = { final_laws };
+    ghost laws = { triple_laws (λ (found : Final). found.triple) };
 }
 
 impl Final {

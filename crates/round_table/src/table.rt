@@ -1,5 +1,6 @@
 //! The labels of a table by round and stop.
 ghost use Rattle.std.specs.Prelude.{◌≡◌, ◌+◌, ◌*◌, ◌<◌, ◌≤◌, ◌^◌, length, slice_get, All, IfOk, Some};
+ghost use Rattle.feed_rows.specs.Limits.{most_rides};
 ghost use Rattle.plain_laws.specs.Plain.{list_below};
 ghost use Rattle.item_groups.specs.Groups.{groups_below};
 ghost use Rattle.round_table.specs.Finals.{finals_of};
@@ -55,7 +56,7 @@ impl RoundTable {
         stops: u32,
         limit: u8,
     ) -> Result<RoundTable, AllocError>
-        requires limit { limit ≤ 8 }
+        requires limit { limit ≤ most_rides }
         requires stops { stops ≤ 4_000_000 }
         requires numbers { length labels < 2 ^ 32 }
         requires few { All (λ (x : Label). x.rides ≤ limit) labels }
@@ -123,7 +124,7 @@ fn members_of(
 ) -> Result<Vec<Grouped<u32>>, AllocError>
     requires stops { stops ≤ 4_000_000 }
     requires numbers { length labels.now < 2 ^ 32 }
-    requires few { All (λ (x : Label). x.rides ≤ 8) labels.now }
+    requires few { All (λ (x : Label). x.rides ≤ most_rides) labels.now }
     requires inside { All (λ (x : Label). x.stop.0 < stops) labels.now }
     ensures { IfOk result (λ members. members.items ≡ list_below (length labels.now) (numbered stops labels.now)) }
 {
@@ -141,7 +142,7 @@ fn members_of(
 // The group of the label, of so many stops.
 fn group_of(label: &KeptLabel, stops: u32) -> u32
     requires stops { stops ≤ 4_000_000 }
-    requires few { label.now.rides ≤ 8 }
+    requires few { label.now.rides ≤ most_rides }
     requires inside { label.now.stop.0 < stops }
     ensures { result ≡ group_at stops label.now.rides label.now.stop.0 }
 {

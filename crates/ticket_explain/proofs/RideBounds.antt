@@ -1,70 +1,24 @@
 -- The rides of a feed without faults are of its trips, and their days and shifts are small.
-use Rattle.std.proofs.Common.{◌≡◌, refl, sym, ◌∙◌, subst, ℕ, ◌<◌, Bool, true, false, ◌&&◌, nat_lt, ◌==◌, length, arith, ℤ, pos, negsuc, ◌≤ℤ◌, ◌<ℤ◌, ◌-ℤ◌}
+use Rattle.std.proofs.Common.{◌≡◌, refl, sym, ◌∙◌, ℕ, ◌<◌, true, false, ◌&&◌, nat_lt, length, arith, ℤ, pos, negsuc, ◌≤ℤ◌, ◌<ℤ◌, ◌-ℤ◌}
 use Rattle.std.specs.Prelude.{Option, Some, None, slice_get, int_le}
 use mathlib.Core.Bool.{true≢false}
-use Rattle.std.proofs.lemmas.Bool.{and_parts}
 use Rattle.std.proofs.lemmas.Bool.Decides.{nat_tests}
 use Rattle.std.proofs.lemmas.Int.{ints}
 use Rattle.std.proofs.lemmas.Option.{slice_get_within}
-use Rattle.std.proofs.lemmas.List.Elements.{All-contains}
 use Rattle.feed_rows.specs.Limits.{least_shift, most_shift}
 use Rattle.transit_base.specs.Limits.{most_time}
-use Rattle.transit_base.specs.declared.numbers.ServiceId.{ServiceId}
-use Rattle.feed_rows.specs.declared.rows.ServiceRow.{ServiceRow}
-use Rattle.feed_rows.specs.declared.rows.ExceptionRow.{ExceptionRow}
 use Rattle.feed_rows.specs.declared.journeys.Ride.{Ride}
 use Rattle.feed_rows.specs.declared.journeys.RideFacts.{RideFacts}
 use Rattle.feed_rows.specs.FeedRows.{FeedRows}
 use Rattle.feed_rows.specs.SoundFeed.{IsSoundFeed}
-use Rattle.feed_rows.specs.SoundTimetable.{IsCalendarDay}
-use Rattle.plain_laws.specs.Plain.{int_same}
-use Rattle.feed_rows.specs.ServiceDays.{covers, is_covered, is_added, is_active}
 use Rattle.feed_rows.specs.Rides.{ride_facts}
+use Rattle.feed_laws.proofs.ActiveDays.{dated_day}
 use Rattle.feed_laws.proofs.CallTimes.{first_departure_most}
 use Rattle.feed_laws.proofs.RideLaws.{ride_facts_tells}
-use Rattle.plain_laws.proofs.Laws.{list_any_tells, int_same-true, filled_and-true}
+use Rattle.plain_laws.proofs.Laws.{filled_and-true}
 use Rattle.feed_laws.proofs.ShiftLaws.{is_shift_bounds}
 use Rattle.feed_laws.proofs.SoundTrips.{sound_trip}
 use Rattle.ticket_explain.specs.LineParts.{is_near}
-
--- a day of the calendar, as a number
-record IsNearDay (day : ℤ) : Type 0 where
-  pub low : negsuc 799_999 ≤ℤ day
-  pub high : day ≤ℤ pos 3_000_000
-
-near_added : (feed : FeedRows) (service : ServiceId) (day : ℤ) → IsSoundFeed feed → is_added feed service day ≡ true → IsNearDay day
-near_added feed service day sound e =
-    let found = list_any_tells (λ (x : ExceptionRow). (x.service.0 == service.0) && int_same x.day.0 day && x.added) feed.exceptions e in
-    let parts = and_parts _ _ (and_parts _ _ found.2).0 in
-    let same = int_same-true found.0.day.0 day parts.1 in
-    let calendar = All-contains (λ (x : ExceptionRow). IsCalendarDay x.day) feed.exceptions found.0 sound.exceptions.days found.1 in
-    let low = calendar.low in
-    let high = calendar.high in
-    subst IsNearDay same (record { low = omega (arith, ints); high = omega (arith, ints) })
-
-between : (first day last : ℤ) → negsuc 719_161 ≤ℤ first → last ≤ℤ pos 2_932_896 → int_le first day ≡ true → int_le day last ≡ true → IsNearDay day
-between first day last low high after before =
-    let from : first ≤ℤ day = grind (arith, ints) in
-    let to : day ≤ℤ last = grind (arith, ints) in
-    record { low = omega (arith, ints); high = omega (arith, ints) }
-
-near_covered : (feed : FeedRows) (service : ServiceId) (day : ℤ) → IsSoundFeed feed → is_covered feed service day ≡ true → IsNearDay day
-near_covered feed service day sound e =
-    let found = list_any_tells (λ (row : ServiceRow). (row.service.0 == service.0) && covers row day) feed.services e in
-    let covered = and_parts _ _ (and_parts _ _ found.2).1 in
-    let ends = and_parts _ _ covered.0 in
-    let first = All-contains (λ (row : ServiceRow). IsCalendarDay row.first) feed.services found.0 sound.services.firsts found.1 in
-    let last = All-contains (λ (row : ServiceRow). IsCalendarDay row.last) feed.services found.0 sound.services.lasts found.1 in
-    between found.0.first.0 day found.0.last.0 first.low last.high ends.0 ends.1
-
--- a service is active on days of the calendar alone
-near_active : (feed : FeedRows) (service : ServiceId) (day : ℤ) → IsSoundFeed feed → is_active feed service day ≡ true → IsNearDay day
-unfolding is_active
-near_active feed service day sound e = step (is_added feed service day) refl
-  where
-    step : (b : Bool) → is_added feed service day ≡ b → IsNearDay day
-    step true added = near_added feed service day sound added
-    step false none = near_covered feed service day sound (and_parts _ _ (rw none at e)).0
 
 -- a ride with facts is near
 near_ride : (feed : FeedRows) (ride : Ride) (facts : RideFacts) → IsSoundFeed feed → ride_facts feed ride ≡ Some facts → is_near feed ride ≡ true
@@ -72,15 +26,17 @@ near_ride feed ride facts sound e =
     let is = ride_facts_tells feed ride facts e in
     let row = filled_and-true (slice_get feed.trips ride.trip.0) _ is.runs in
     let within : ride.trip.0 < length feed.trips = slice_get_within feed.trips ride.trip.0 row.value row.is in
-    let day = near_active feed row.value.service ride.day.0 sound row.passes in
+    let day = dated_day feed ride facts sound e in
     let timed = sound_trip feed ride.trip sound in
     let begins = first_departure_most feed ride.trip most_time timed.ends timed.times in
     let bounds = is_shift_bounds feed ride.trip ride.shift most_time (omega arith) timed.runs begins is.shift in
     tests ride.trip.0 (length feed.trips) ride.day.0 ride.shift within day.low day.high bounds.0 bounds.1
   where
-    tests : (trip trips : ℕ) (day shift : ℤ) → trip < trips → negsuc 799_999 ≤ℤ day → day ≤ℤ pos 3_000_000 → (pos 0 -ℤ pos most_time) ≤ℤ shift → shift <ℤ pos most_time
+    tests : (trip trips : ℕ) (day shift : ℤ) → trip < trips → negsuc 719_161 ≤ℤ day → day ≤ℤ pos 2_932_896 → (pos 0 -ℤ pos most_time) ≤ℤ shift → shift <ℤ pos most_time
         → (nat_lt trip trips && int_le (negsuc 799_999) day && int_le day (pos 3_000_000) && int_le least_shift shift && int_le shift most_shift) ≡ true
     tests trip trips day shift a b c d e =
+        let from : negsuc 799_999 ≤ℤ day = omega (arith, ints) in
+        let to : day ≤ℤ pos 3_000_000 = omega (arith, ints) in
         let low : least_shift ≤ℤ shift = omega (arith, ints) in
         let high : shift ≤ℤ most_shift = omega (arith, ints) in
         grind (arith, ints, nat_tests)

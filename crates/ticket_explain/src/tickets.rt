@@ -12,7 +12,7 @@ use crate::line::Line;
 use crate::lookups::{amount_of, item_at, medium_id, product_name, rule_kind};
 use crate::text::Text;
 use crate::travel::push_if;
-use feed_rows::{ChangeChoice, Choice, Feed, LegChoice};
+use feed_rows::{CHANGE_ALONE, ChangeChoice, Choice, Feed, LegChoice, includes_leg_after};
 use std::alloc::AllocError;
 use transit_base::{Money, ProductRowId};
 
@@ -189,7 +189,7 @@ fn is_included_on_entry(feed: &Feed, choice: &Choice, leg: usize) -> bool
         return false;
     }
     match transfer_kind(feed, choice, leg - 1) {
-        Some(kind) => kind == 0 || kind == 2,
+        Some(kind) => includes_leg_after(kind),
         None => false,
     }
 }
@@ -210,7 +210,7 @@ fn is_included_on_leaving(feed: &Feed, choice: &Choice, leg: usize) -> bool
     ensures { result ≡ is_included_on_leaving (transfer_kind feed.now choice.now) leg }
 {
     match transfer_kind(feed, choice, leg) {
-        Some(kind) => kind == 2,
+        Some(kind) => kind == CHANGE_ALONE,
         None => false,
     }
 }

@@ -24,7 +24,7 @@ use Rattle.ticket_read.specs.Cuts.{lines_in, fields_in}
 use Rattle.ticket_read.specs.Drafts.{empty_draft, with_item}
 use Rattle.ticket_read.specs.EntryTexts.{IsTextOf, HasOneListByText}
 use Rattle.ticket_read.specs.Items.{item_of}
-use Rattle.ticket_read.specs.Judgement.{Asked, asked, is_asked, way_arrival, journey_arrival, judged, entry_of}
+use Rattle.ticket_read.specs.Judgement.{Asked, asked, fits_query, way_arrival, journey_arrival, judged, entry_of}
 use Rattle.ticket_read.specs.Readings.{start, all_done, with_draft, closed, begun, added, read_line, read_entries}
 use Rattle.ticket_read.specs.declared.drafts.Draft.{Draft}
 use Rattle.ticket_read.specs.declared.drafts.Item.{Item}
@@ -39,9 +39,9 @@ use Rattle.ticket_read.proofs.WayLaws.{travel_reads}
 
 -- ---- journeys
 
-asked_true : (feed : FeedRows) (query : Query) (journey : Journey) → stands_for feed query.from journey.first ≡ true → stands_for feed query.to journey.last ≡ true
-    → length journey.rides ≤ query.rides → is_asked feed query journey ≡ true
-asked_true feed query journey starts ends few =
+fits_true : (feed : FeedRows) (query : Query) (journey : Journey) → stands_for feed query.from journey.first ≡ true → stands_for feed query.to journey.last ≡ true
+    → length journey.rides ≤ query.rides → fits_query feed query journey ≡ true
+fits_true feed query journey starts ends few =
     let test : nat_le (length journey.rides) query.rides ≡ true = grind (arith, nat_tests) in
     rw (starts, ends, test) refl
 
@@ -50,7 +50,7 @@ pub arrival_is : (feed : FeedRows) (query : Query) (journey : Journey) (arrival 
 unfolding journey_arrival way_arrival
 arrival_is feed query journey arrival j =
     let t = travelled_of_journey feed query journey arrival j in
-    let asked = asked_true feed query journey j.starts j.ends j.few in
+    let asked = fits_true feed query journey j.starts j.ends j.few in
     let stands = t.stands in
     let arrives = t.arrives in
     let in_time = le-int_le arrival (query.departure.0 +ℤ pos query.window) t.in_time in
@@ -59,9 +59,9 @@ arrival_is feed query journey arrival j =
 -- and what has one is a journey of the query
 pub journey_of : (feed : FeedRows) (query : Query) (journey : Journey) (arrival : ℤ) → journey_arrival feed query journey ≡ Some arrival → IsJourney feed query journey arrival
 unfolding journey_arrival way_arrival
-journey_of feed query journey arrival e = by (is_asked feed query journey) refl
+journey_of feed query journey arrival e = by (fits_query feed query journey) refl
   where
-    travelled : (stand : Stand) (other : ℤ) → is_asked feed query journey ≡ true → stand_after feed query journey.first journey.rides (length journey.rides) ≡ Some stand
+    travelled : (stand : Stand) (other : ℤ) → fits_query feed query journey ≡ true → stand_after feed query journey.first journey.rides (length journey.rides) ≡ Some stand
         → end_arrival feed query stand journey.last ≡ Some other → int_le other (query.departure.0 +ℤ pos query.window) ≡ true → other ≡ arrival → IsJourney feed query journey arrival
     travelled stand other asked stands arrives in_time same =
         let a = and_parts _ _ asked in
@@ -76,7 +76,7 @@ journey_of feed query journey arrival e = by (is_asked feed query journey) refl
           in_time = int_le-true other (query.departure.0 +ℤ pos query.window) in_time;
         }))
 
-    by : (b : Bool) → is_asked feed query journey ≡ b → IsJourney feed query journey arrival
+    by : (b : Bool) → fits_query feed query journey ≡ b → IsJourney feed query journey arrival
     by false is = absurd (none-some arrival (rw is at e))
     by true is =
         option_and_then_some _ (stand_after feed query journey.first journey.rides (length journey.rides)) arrival (rw is at e) (λ stand stands rest.
@@ -103,7 +103,7 @@ judged_is feed query entry e =
 pub judged_right : (feed : FeedRows) (query : Query) (journey : Journey) (choice : Choice) (entry : Entry) → judged feed query journey choice ≡ Some entry → IsEntry feed query entry
 unfolding judged
 judged_right feed query journey choice entry e =
-    option_and_then_some _ (journey_arrival feed query journey) entry e (λ arrival arrives rest. by arrival arrives (rides_price feed journey.rides choice query.rider) refl rest)
+    option_and_then_some _ (journey_arrival feed query journey) entry e (λ arrival arrives rest. by arrival arrives (rides_price feed journey.rides choice query.buyer) refl rest)
   where
     made : ℤ → ℤ → Entry
     made arrival price =
@@ -113,7 +113,7 @@ judged_right feed query journey choice entry e =
           choice = choice;
         }
 
-    by : (arrival : ℤ) → journey_arrival feed query journey ≡ Some arrival → (o : Option ℤ) → rides_price feed journey.rides choice query.rider ≡ o
+    by : (arrival : ℤ) → journey_arrival feed query journey ≡ Some arrival → (o : Option ℤ) → rides_price feed journey.rides choice query.buyer ≡ o
         → option_map (made arrival) o ≡ Some entry → IsEntry feed query entry
     by arrival arrives None price h = absurd (none-some entry h)
     by arrival arrives (Some sum) price h =
@@ -155,7 +155,7 @@ entry_read : (feed : FeedRows) (query : Query) (entry : Entry) → IsSoundFeed f
 unfolding entry_lines entry_of
 entry_read feed query entry sound e =
     let way = travel_reads feed query entry.journey entry.triple.arrival.0 sound e.journey in
-    let of = choice_of feed entry.journey.rides entry.choice query.rider entry.triple.price.0 e.price in
+    let of = choice_of feed entry.journey.rides entry.choice query.buyer entry.triple.price.0 e.price in
     let fares = fares_read (Some entry.journey.first) (Some entry.journey.last) entry.journey.rides feed entry.choice sound of in
     let rest = reads_both feed (travel_lines feed entry.journey) (fare_lines feed entry.choice) empty_draft _ _ way fares in
     let head = head_tells feed entry.triple sound in

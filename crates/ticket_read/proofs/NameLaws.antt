@@ -25,7 +25,7 @@ use Rattle.feed_rows.specs.declared.rows.StopRow.{StopRow}
 use Rattle.feed_rows.specs.declared.rows.StopTimeRow.{StopTimeRow}
 use Rattle.feed_rows.specs.declared.rows.TripRow.{TripRow}
 use Rattle.plain_laws.specs.Plain.{find_below, at_and}
-use Rattle.plain_laws.proofs.Laws.{find_below_tells, find_below_some, filled_and-true, bytes_eq-true, eq-bytes_eq, same-key}
+use Rattle.plain_laws.proofs.Laws.{find_below_some, filled_and-true, bytes_eq-true, eq-bytes_eq, same-key}
 use Rattle.feed_laws.proofs.CallLaws.{calls_of_row}
 use Rattle.feed_laws.proofs.CallTimes.{first_departure_most}
 use Rattle.feed_laws.proofs.FeedReadings.{same_stop, same_trip}
@@ -34,19 +34,6 @@ use Rattle.feed_laws.proofs.ShiftLaws.{is_shift_none, is_shift_leads}
 use Rattle.feed_laws.proofs.SoundTrips.{sound_trip, calls_apart, row_at}
 use Rattle.ticket_read.specs.Items.{shift_by}
 use Rattle.ticket_read.proofs.NumberLaws.{time_value-time_text}
-
--- a trip that is found is one of the feed
-pub trip_within : (feed : FeedRows) (id : List ℕ) (trip : TripId) → find_trip feed id ≡ Some trip → trip.0 < length feed.trips
-trip_within feed id trip is = by (find_below (length feed.trips) (has_trip_id feed id)) refl is
-  where
-    by : (o : Option ℕ) → find_below (length feed.trips) (has_trip_id feed id) ≡ o
-        → option_map (λ i. record { 0 = i }) o ≡ Some trip → trip.0 < length feed.trips
-    by None found e = absurd (none-some trip e)
-    by (Some i) found e =
-        let first = find_below_tells (has_trip_id feed id) (length feed.trips) i found in
-        let same : record { 0 = i } ≡ trip = same_Some (record { 0 = i }) trip e in
-        let number : i ≡ trip.0 = ap (λ (t : TripId). t.0) same in
-        rw (← number) first.within
 
 -- ---- names that are read back
 

@@ -9,7 +9,6 @@ use Rattle.std.proofs.lemmas.Option.{none-some, same_Some, cond_some, option_and
 use Rattle.std.proofs.Math.Seq.{take-length}
 use Rattle.transit_base.specs.declared.numbers.ProductId.{ProductId}
 use Rattle.transit_base.specs.declared.numbers.ProductRowId.{ProductRowId}
-use Rattle.transit_base.specs.declared.numbers.RiderId.{RiderId}
 use Rattle.transit_base.specs.declared.numbers.StopId.{StopId}
 use Rattle.feed_rows.specs.FeedRows.{FeedRows}
 use Rattle.feed_rows.specs.EntryText.{leg_line, change_line, leg_lines, fare_lines}
@@ -19,6 +18,7 @@ use Rattle.feed_rows.specs.JourneyEntries.{rides_price}
 use Rattle.feed_rows.specs.Legs.{legs_of}
 use Rattle.feed_rows.specs.SoundFeed.{IsSoundFeed}
 use Rattle.feed_rows.specs.TransferRules.{change_at, is_selected_transfer}
+use Rattle.feed_rows.specs.declared.journeys.Buyer.{Buyer}
 use Rattle.feed_rows.specs.declared.fares.ChangeChoice.{ChangeChoice}
 use Rattle.feed_rows.specs.declared.fares.Choice.{Choice}
 use Rattle.feed_rows.specs.declared.fares.LegChoice.{LegChoice}
@@ -64,11 +64,11 @@ pub record IsChoiceOf (feed : FeedRows) (choice : Choice) : Type 0 where
 told : (a b : ℕ) → (a == b) ≡ true → a ≡ b
 told a b e = grind (arith, nat_tests)
 
-leg_of : (feed : FeedRows) (legs : List LegFacts) (choice : Choice) (rider : Option RiderId) (i : ℕ) → is_leg_paid feed legs choice rider i ≡ true → IsLegOf feed choice i
+leg_of : (feed : FeedRows) (legs : List LegFacts) (choice : Choice) (buyer : Buyer) (i : ℕ) → is_leg_paid feed legs choice buyer i ≡ true → IsLegOf feed choice i
 unfolding is_leg_paid is_leg_choice
-leg_of feed legs choice rider i e =
+leg_of feed legs choice buyer i e =
     let leg = filled_and-true (slice_get legs i) _ e in
-    let pick = filled_and-true (slice_get choice.legs i) (is_leg_choice feed rider leg.value) leg.passes in
+    let pick = filled_and-true (slice_get choice.legs i) (is_leg_choice feed buyer leg.value) leg.passes in
     let rule = filled_and-true (slice_get feed.leg_rules pick.value.rule.0) _ pick.passes in
     let product = filled_and-true (slice_get feed.products pick.value.product.0) _ (and_parts _ _ rule.passes).1 in
     record {
@@ -79,41 +79,41 @@ leg_of feed legs choice rider i e =
       product = product.is;
     }
 
-change_of : (feed : FeedRows) (legs : List LegFacts) (choice : Choice) (rider : Option RiderId) (i : ℕ) → is_change_paid feed legs choice rider i ≡ true → IsChangeOf feed choice i
+change_of : (feed : FeedRows) (legs : List LegFacts) (choice : Choice) (buyer : Buyer) (i : ℕ) → is_change_paid feed legs choice buyer i ≡ true → IsChangeOf feed choice i
 unfolding is_change_paid is_transfer_choice
-change_of feed legs choice rider i e =
-    let place = filled_and-true (slice_get choice.changes i) (is_change_choice feed rider change) e in
+change_of feed legs choice buyer i e =
+    let place = filled_and-true (slice_get choice.changes i) (is_change_choice feed buyer change) e in
     record {
       place = place.value;
       got = place.is;
-      rule = λ pick is. let r = rule_of pick (subst (λ (p : Option ChangeChoice). is_change_choice feed rider change p ≡ true) is place.passes) in (r.0, r.1);
-      product = λ pick is. let r = rule_of pick (subst (λ (p : Option ChangeChoice). is_change_choice feed rider change p ≡ true) is place.passes) in product_of pick r.0 r.2;
+      rule = λ pick is. let r = rule_of pick (subst (λ (p : Option ChangeChoice). is_change_choice feed buyer change p ≡ true) is place.passes) in (r.0, r.1);
+      product = λ pick is. let r = rule_of pick (subst (λ (p : Option ChangeChoice). is_change_choice feed buyer change p ≡ true) is place.passes) in product_of pick r.0 r.2;
     }
   where
     change : Option TransferFacts
     change = change_at feed (fare_leg feed legs choice.legs) i
 
-    rule_of : (pick : ChangeChoice) → is_change_choice feed rider change (Some pick) ≡ true
-        → (row : TransferRuleRow) × (slice_get feed.transfer_rules pick.rule.0 ≡ Some row) × (is_change_product feed rider row.product pick.product ≡ true)
+    rule_of : (pick : ChangeChoice) → is_change_choice feed buyer change (Some pick) ≡ true
+        → (row : TransferRuleRow) × (slice_get feed.transfer_rules pick.rule.0 ≡ Some row) × (is_change_product feed buyer row.product pick.product ≡ true)
     rule_of pick h =
-        let asked = filled_and-true change (λ (c : TransferFacts). is_transfer_choice feed rider c pick) h in
+        let asked = filled_and-true change (λ (c : TransferFacts). is_transfer_choice feed buyer c pick) h in
         let rule = filled_and-true (slice_get feed.transfer_rules pick.rule.0)
-        (λ (r : TransferRuleRow). is_selected_transfer feed asked.value r && is_change_product feed rider r.product pick.product) asked.passes in
-        (rule.value, rule.is, (and_parts (is_selected_transfer feed asked.value rule.value) (is_change_product feed rider rule.value.product pick.product) rule.passes).1)
+        (λ (r : TransferRuleRow). is_selected_transfer feed asked.value r && is_change_product feed buyer r.product pick.product) asked.passes in
+        (rule.value, rule.is, (and_parts (is_selected_transfer feed asked.value rule.value) (is_change_product feed buyer rule.value.product pick.product) rule.passes).1)
 
-    product_of : (pick : ChangeChoice) (row : TransferRuleRow) → is_change_product feed rider row.product pick.product ≡ true → HasProduct feed pick
+    product_of : (pick : ChangeChoice) (row : TransferRuleRow) → is_change_product feed buyer row.product pick.product ≡ true → HasProduct feed pick
     product_of pick row h id is = by row.product refl
       where
         by : (product : Option ProductId) → row.product ≡ product → (r : ProductRow) × (slice_get feed.products id.0 ≡ Some r)
         by None none = absurd (let no : false ≡ true = rw (none, is) at h in cc)
         by (Some product) some =
-            let found = filled_and-true (slice_get feed.products id.0) (is_open product rider) (rw (some, is) at h) in (found.value, found.is)
+            let found = filled_and-true (slice_get feed.products id.0) (is_open product buyer) (rw (some, is) at h) in (found.value, found.is)
 
 -- a choice that pays is such a choice
-pub choice_of : (feed : FeedRows) (rides : List Ride) (choice : Choice) (rider : Option RiderId) (price : ℤ) → rides_price feed rides choice rider ≡ Some price → IsChoiceOf feed choice
+pub choice_of : (feed : FeedRows) (rides : List Ride) (choice : Choice) (buyer : Buyer) (price : ℤ) → rides_price feed rides choice buyer ≡ Some price → IsChoiceOf feed choice
 unfolding is_fare_choice
-choice_of feed rides choice rider price e = option_and_then_some _ (legs_of feed rides) price e (λ legs _ paid.
-    let all = (cond_some (is_fare_choice feed legs choice rider) (fare_sum feed choice) price paid).0 in
+choice_of feed rides choice buyer price e = option_and_then_some _ (legs_of feed rides) price e (λ legs _ paid.
+    let all = (cond_some (is_fare_choice feed legs choice buyer) (fare_sum feed choice) price paid).0 in
     let a = and_parts _ _ all in
     let b = and_parts _ _ a.0 in
     let c = and_parts _ _ b.0 in
@@ -121,8 +121,8 @@ choice_of feed rides choice rider price e = option_and_then_some _ (legs_of feed
     let changes_many = told (length choice.changes) (length legs - 1) c.1 in
     record {
       many = omega (arith, legs_many, changes_many);
-      legs = λ i lt. leg_of feed legs choice rider i (all_below-at (length legs) (is_leg_paid feed legs choice rider) b.1 i (omega (arith, legs_many, lt)));
-      changes = λ i lt. change_of feed legs choice rider i (all_below-at (length legs - 1) (is_change_paid feed legs choice rider) a.1 i (omega (arith, changes_many, lt)));
+      legs = λ i lt. leg_of feed legs choice buyer i (all_below-at (length legs) (is_leg_paid feed legs choice buyer) b.1 i (omega (arith, legs_many, lt)));
+      changes = λ i lt. change_of feed legs choice buyer i (all_below-at (length legs - 1) (is_change_paid feed legs choice buyer) a.1 i (omega (arith, changes_many, lt)));
     })
 
 -- ---- the lines

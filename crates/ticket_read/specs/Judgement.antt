@@ -30,8 +30,8 @@ pub record IsNearQuery (query : Query) : Type 0 where
   pub few : query.rides ≤ 12
 
 -- the journey starts and ends where the query says, with no more rides than it says
-abbrev pub is_asked : FeedRows → Query → Journey → Bool
-is_asked feed query journey =
+abbrev pub fits_query : FeedRows → Query → Journey → Bool
+fits_query feed query journey =
     stands_for feed query.from journey.first && stands_for feed query.to journey.last
     && nat_le (length journey.rides) query.rides
 
@@ -44,13 +44,13 @@ way_arrival feed query journey =
 
 -- the arrival of a journey of the query; none where it is none
 unfoldable pub journey_arrival : FeedRows → Query → Journey → Option ℤ
-journey_arrival feed query journey = if is_asked feed query journey then way_arrival feed query journey else None
+journey_arrival feed query journey = if fits_query feed query journey then way_arrival feed query journey else None
 
 -- the entry of a journey and a choice; none where they are none of the query
 unfoldable pub judged : FeedRows → Query → Journey → Choice → Option Entry
 judged feed query journey choice =
     given (journey_arrival feed query journey) (λ arrival.
-    given_last (rides_price feed journey.rides choice query.rider) (λ price.
+    given_last (rides_price feed journey.rides choice query.buyer) (λ price.
     record {
       triple = record { arrival = record { 0 = arrival }; rides = length journey.rides; price = record { 0 = price } };
       journey = journey;

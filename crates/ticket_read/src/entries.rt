@@ -29,9 +29,27 @@ pub fn entries_of(
     ensures only { IfOk result (λ read. (entries : List Entry) → IsTextOf timetable.now query.now entries text.now → read ≡ Some entries) }
     ensures one { HasOneListByText timetable.now query.now }
 {
-    let timeframes = Timeframes::build(alloc, timetable.feed())?;
+    match Timeframes::build(alloc, timetable.feed(), timetable.calendar()) {
+        Ok(timeframes) => entries_at(timetable, &timeframes, alloc, query, text),
+        Err(AllocError) => Err(AllocError),
+    }
+}
+
+// The same, where the timeframes of the feed are at hand.
+fn entries_at<'s, 'f>(
+    timetable: &'s Timetable<'f>,
+    timeframes: &'s Timeframes<'s>,
+    alloc: Global,
+    query: &'s Query,
+    text: &[u8],
+) -> Result<Option<Entries>, AllocError>
+    requires near { IsNearQuery query.now }
+    requires timeframes { AreTimeframesOf timetable.now timeframes.now }
+    ensures told { IfOk result (λ read. IfSome read (λ entries. IsTextOf timetable.now query.now entries text.now)) }
+    ensures only { IfOk result (λ read. (entries : List Entry) → IsTextOf timetable.now query.now entries text.now → read ≡ Some entries) }
+{
     match Fares::build(alloc, timetable.feed()) {
-        Ok(fares) => entries_by(timetable, &fares, &timeframes, alloc, query, text),
+        Ok(fares) => entries_by(timetable, &fares, timeframes, alloc, query, text),
         Err(AllocError) => Err(AllocError),
     }
 }
@@ -40,7 +58,7 @@ pub fn entries_of(
 fn entries_by<'s, 'f>(
     timetable: &'s Timetable<'f>,
     fares: &'s Fares<'f>,
-    timeframes: &'s Timeframes,
+    timeframes: &'s Timeframes<'s>,
     alloc: Global,
     query: &'s Query,
     text: &[u8],

@@ -2,7 +2,6 @@
 ghost use Rattle.std.specs.Prelude.{◌≡◌, ◌<◌, ◌≤◌, map, pos, IfOk, IfSome, length, option_map};
 ghost use Rattle.transit_base.specs.Limits.{most_time};
 ghost use Rattle.feed_rows.specs.Rides.{ride_facts};
-ghost use Rattle.feed_rows.specs.RideWords.{start_value};
 ghost use Rattle.feed_rows.specs.Queries.{find_trip};
 ghost use Rattle.ticket_read.specs.Cuts.{field, fields_in};
 ghost use Rattle.ticket_read.specs.Items.{number_in, row_in, day_in, shift_by, place_in, stop_in, run_of, ride_of, ride_item, walk_item, stay_item, leg_item, change_row, change_item, item_of};
@@ -11,10 +10,10 @@ use crate::cuts::{field, fields_of};
 use crate::drafts::Item;
 use crate::journeys::facts_of;
 use feed_rows::{ChangeChoice, LegChoice, Ride};
-use feed_text::{day_of_parts, int_of, time_of};
+use feed_text::{day_of_parts, int_of, start_in};
 use feed_timetable::Timetable;
 use std::alloc::{AllocError, Global};
-use transit_base::{Day, MOST_TIME, ProductRowId, RuleId, StopId, TripId, XferId};
+use transit_base::{Day, ProductRowId, RuleId, StopId, TripId, XferId};
 
 // The number of a field, of 32 bits.
 #[tactic(auto, unfolding(crate::specs::Items::number_in))]
@@ -48,20 +47,8 @@ fn day_in(text: &[u8]) -> Option<Day>
     day_of_parts(&text[..4], &text[5..7], &text[8..10])
 }
 
-// The first departure of a run, or `-` where the trip has no frequency rows.
-fn start_in(text: &[u8]) -> Option<Option<u32>>
-    ensures value { result ≡ start_value text.now }
-    ensures high { IfSome result (λ start. IfSome start (λ s. s ≤ most_time)) }
-{
-    if text == b"-".as_slice() {
-        return Some(None);
-    }
-    let start = time_of(text, MOST_TIME)?;
-    Some(Some(start))
-}
-
 // The trip with this id.
-#[tactic(auto, using(crate::proofs::NameLaws::trip_within))]
+#[tactic(auto, using(feed_laws::proofs::PriceQueryLaws::trip_within))]
 fn trip_in(timetable: &Timetable, id: &[u8]) -> Option<TripId>
     ensures value { result ≡ find_trip timetable.now id.now }
     ensures within { IfSome result (λ trip. trip.0 < length timetable.now.trips) }

@@ -7,7 +7,7 @@ ghost use Rattle.feed_rows.specs.Legs.{legs_of};
 ghost use Rattle.feed_rows.specs.declared.journeys.LegFacts.{LegFacts};
 ghost use Rattle.feed_timetable.specs.Standings.{stand_of, IsNear};
 ghost use Rattle.fare_timeframes.specs.BuiltTimeframes.{AreTimeframesOf};
-ghost use Rattle.ticket_read.specs.Judgement.{IsNearMoment, IsNearQuery, is_asked, journey_arrival};
+ghost use Rattle.ticket_read.specs.Judgement.{IsNearMoment, IsNearQuery, fits_query, journey_arrival};
 
 use fare_timeframes::Timeframes;
 use feed_rows::{Journey, LegFacts, Query, Ride, RideFacts};
@@ -70,8 +70,8 @@ fn last_standing(timetable: &Timetable, query: &Query, journey: &Journey) -> Opt
 }
 
 // Whether the journey starts and ends where the query says, with no more rides than it says.
-fn is_asked(timetable: &Timetable, query: &Query, journey: &Journey) -> bool
-    ensures { result ≡ is_asked timetable.now query.now journey.now }
+fn fits_query(timetable: &Timetable, query: &Query, journey: &Journey) -> bool
+    ensures { result ≡ fits_query timetable.now query.now journey.now }
 {
     timetable.stands_for(query.from, journey.first)
         && timetable.stands_for(query.to, journey.last)
@@ -84,7 +84,7 @@ pub fn arrival_of(timetable: &Timetable, query: &Query, journey: &Journey) -> Op
     ensures value { option_map (λ (m : Moment). m.0) result ≡ journey_arrival timetable.now query.now journey.now }
     ensures few { IfSome result (λ m. length journey.now.rides ≤ query.now.rides) }
 {
-    if !is_asked(timetable, query, journey) {
+    if !fits_query(timetable, query, journey) {
         return None;
     }
     let standing = last_standing(timetable, query, journey)?;

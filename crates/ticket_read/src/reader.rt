@@ -52,7 +52,7 @@ impl Reading {
 pub struct Reader<'s, 'f> {
     timetable: &'s Timetable<'f>,
     query: &'s Query,
-    timeframes: &'s Timeframes,
+    timeframes: &'s Timeframes<'s>,
     fares: &'s Fares<'f>,
 }
 
@@ -85,7 +85,7 @@ impl<'s, 'f> Reader<'s, 'f> {
     pub fn new(
         timetable: &'s Timetable<'f>,
         query: &'s Query,
-        timeframes: &'s Timeframes,
+        timeframes: &'s Timeframes<'s>,
         fares: &'s Fares<'f>,
     ) -> Reader<'s, 'f>
         requires near { IsNearQuery query.now }
@@ -109,12 +109,12 @@ impl<'s, 'f> Reader<'s, 'f> {
         choice: &Choice,
     ) -> Result<Option<Money>, AllocError>
         requires few { length rides.now ≤ self.now.query.rides }
-        ensures { IfOk result (λ price. option_map (λ (m : Money). m.0) price ≡ rides_price self.now.feed rides.now choice.now self.now.query.rider) }
+        ensures { IfOk result (λ price. option_map (λ (m : Money). m.0) price ≡ rides_price self.now.feed rides.now choice.now self.now.query.buyer) }
     {
         let Some(legs) = legs_of(alloc, self.timetable, self.timeframes, rides)? else {
             return Ok(None);
         };
-        Ok(verify(self.fares, legs.as_slice(), choice, self.query.rider))
+        Ok(verify(self.fares, legs.as_slice(), choice, self.query.buyer))
     }
 
     // The entry of a journey and a choice; none where they are none of the query.

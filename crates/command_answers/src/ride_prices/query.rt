@@ -1,25 +1,25 @@
 //! What the words of `price` ask for over a feed.
 ghost use Rattle.std.specs.Prelude.{◌≡◌, ◌<◌, ◌≤◌, ◌++◌, ◌∷◌, [], Ok, IfOk, IfErr, IfSome, OnOk, length};
+ghost use Rattle.feed_rows.specs.Limits.{most_rides};
 ghost use Rattle.feed_rows.specs.Journeys.{is_caught};
 ghost use Rattle.feed_rows.specs.PriceQueries.{named_rides, first_missed, price_query_of};
 ghost use Rattle.feed_rows.specs.StopLinks.{link};
 ghost use Rattle.plan_words.specs.Request.{price_request};
 ghost use Rattle.plan_words.specs.Rides.{rides_of as words_of, AreUsualRides};
-ghost use Rattle.command_answers.specs.NamedRides.{rides_of, AreKnown, query_of, IsErrorOf};
+ghost use Rattle.command_answers.specs.NamedRides.{rides_of, AreKnown, named_query, IsErrorOf};
 
 use crate::ride_prices::rides::{NamedRide, named_ride};
 use fare_products::chosen_rider;
-use feed_rows::UsageFault;
+use feed_rows::{Buyer, UsageFault};
 use feed_timetable::Timetable;
 use plan_words::{PriceWords, RideWords, WordsError};
 use std::alloc::{AllocError, Global};
-use transit_base::RiderId;
 
-/// Rides that follow one another, and the rider category for which they are priced.
+/// Rides that follow one another, and the buyer for whom they are priced.
 #[derive(Drop)]
 pub struct PriceQuery {
     pub rides: Vec<NamedRide>,
-    pub rider: Option<RiderId>,
+    pub buyer: Buyer,
 }
 
 // Adds a ride.
@@ -39,7 +39,7 @@ fn named_rides(
     requires { AreUsualRides words.now }
     ensures named { IfOk result (λ rides. named_rides timetable.now (words_of words.now) ≡ Ok (rides_of rides.items)) }
     ensures known { IfOk result (λ rides. AreKnown timetable.now rides.items) }
-    ensures few { IfOk result (λ rides. length rides.items ≤ 8) }
+    ensures few { IfOk result (λ rides. length rides.items ≤ most_rides) }
     ensures err { IfErr result (IsErrorOf (named_rides timetable.now (words_of words.now))) }
 {
     let mut rides = Vec::new(alloc);
@@ -79,7 +79,7 @@ fn first_missed(timetable: &Timetable, rides: &[NamedRide]) -> Option<usize>
     None
 }
 
-/// The rides and the rider that the words name, or the first fault of these names: rides that the feed lacks come before
+/// The rides and the buyer that the words name, or the first fault of these names: rides that the feed lacks come before
 /// changes that can't be made, and these before the rider.
 ///
 /// # Errors
@@ -90,9 +90,9 @@ pub fn price_query_of(
     words: &PriceWords,
 ) -> Result<PriceQuery, WordsError>
     requires { AreUsualRides words.now.rides }
-    ensures value { IfOk result (λ query. price_query_of timetable.now (price_request words.now) ≡ Ok (query_of query)) }
+    ensures value { IfOk result (λ query. price_query_of timetable.now (price_request words.now) ≡ Ok (named_query query)) }
     ensures known { IfOk result (λ query. AreKnown timetable.now query.rides.items) }
-    ensures few { IfOk result (λ query. length query.rides.items ≤ 8) }
+    ensures few { IfOk result (λ query. length query.rides.items ≤ most_rides) }
     ensures err { IfErr result (IsErrorOf (price_query_of timetable.now (price_request words.now))) }
 {
     let rides = named_rides(alloc, timetable, &words.rides)?;
@@ -100,7 +100,10 @@ pub fn price_query_of(
         return Err(WordsError::Usage(UsageFault::NoChange(i as u32 + 1)));
     }
     match chosen_rider(timetable.feed(), words.rider) {
-        Ok(rider) => Ok(PriceQuery { rides, rider }),
+        Ok(rider) => Ok(PriceQuery {
+            rides,
+            buyer: Buyer { rider },
+        }),
         Err(fault) => Err(WordsError::Usage(fault)),
     }
 }

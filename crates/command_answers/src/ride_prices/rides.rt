@@ -21,7 +21,7 @@ pub struct NamedRide {
 }
 
 // The trip with this id.
-#[tactic(auto, using(crate::proofs::RideLaws::trip_within))]
+#[tactic(auto, using(feed_laws::proofs::PriceQueryLaws::trip_within))]
 fn find_trip(timetable: &Timetable, id: &[u8]) -> Option<TripId>
     ensures value { result ≡ find_trip timetable.now id.now }
     ensures within { IfSome result (λ trip. trip.0 < length timetable.now.trips) }

@@ -7,4 +7,4 @@ use Rattle.plain_laws.specs.Plain.{filled_and}
 use Rattle.fare_automaton.proofs.floor.least_for_changes.Given as goal
 
 abbrev pub invariant-loop-row : goal.invariant-loop-row
-invariant-loop-row l = l.least.0 ≡ least_amount (λ row. list_any (λ rule. filled_and rule.product (λ product. is_open product l.rider row)) l.rules) (take l.row-index l.rows)
+invariant-loop-row l = l.least.0 ≡ least_amount (λ row. list_any (λ rule. filled_and rule.product (λ product. is_open product l.buyer row)) l.rules) (take l.row-index l.rows)

@@ -8,11 +8,11 @@ use Rattle.fare_automaton.proofs.floor.least_for_legs.Goals as goal
 
 pub loop-row-preserved : goal.loop-row-preserved
 loop-row-preserved c =
-    least_row (λ row. list_any (λ rule. is_open rule.product c.args.rider row) c.args.rules.now) c.args.rows.now c.loop-row.row-index _ c.is_for_leg.result
+    least_row (λ row. list_any (λ rule. is_open rule.product c.args.buyer row) c.args.rules.now) c.args.rows.now c.loop-row.row-index _ c.is_for_leg.result
     c.loop-row.least.0 c.lesser-least.result.0 c.loop-row-test.true c.loop-row.invariant c.is_for_leg.ensures c.lesser-least.ensures
 
 pub returns : goal.returns
 returns c =
     c.loop-row.invariant
-    ∙ ap (least_amount (λ row. list_any (λ rule. is_open rule.product c.args.rider row) c.args.rules.now))
+    ∙ ap (least_amount (λ row. list_any (λ rule. is_open rule.product c.args.buyer row) c.args.rules.now))
     (take_all c.loop-row.row-index c.args.rows.now c.loop-row-test.false)

@@ -6,4 +6,4 @@ use Rattle.feed_rows.specs.FareFloor.{least_amount}
 use Rattle.fare_automaton.proofs.floor.least_for_legs.Given as goal
 
 abbrev pub invariant-loop-row : goal.invariant-loop-row
-invariant-loop-row l = l.least.0 ≡ least_amount (λ row. list_any (λ rule. is_open rule.product l.rider row) l.rules) (take l.row-index l.rows)
+invariant-loop-row l = l.least.0 ≡ least_amount (λ row. list_any (λ rule. is_open rule.product l.buyer row) l.rules) (take l.row-index l.rows)

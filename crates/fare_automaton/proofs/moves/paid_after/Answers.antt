@@ -2,7 +2,7 @@
 use Rattle.std.proofs.Common.{◌≡◌, ℕ, arith}
 use Rattle.std.specs.Prelude.{Option, None, ℤ, ◌+ℤ◌, pos}
 use Rattle.std.proofs.lemmas.Int.{ints}
-use Rattle.feed_rows.specs.FareStands.{next_paid}
+use Rattle.feed_rows.specs.FareSteps.{next_paid}
 use Rattle.fare_laws.proofs.MoveLaws.{with_sum}
 use Rattle.fare_automaton.proofs.moves.paid_after.Goals as goal
 

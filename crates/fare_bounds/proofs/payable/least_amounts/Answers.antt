@@ -14,7 +14,7 @@ pub returns-clause-least : goal.returns-clause-least
 returns-clause-least c =
     record {
       products = c.in_ok-products.ensures.least;
-      legs = legs_are c.args.feed.now c.args.rider c.in_ok-products.products.items c.in_ok-legs.legs.items
+      legs = legs_are c.args.feed.now c.args.buyer c.in_ok-products.products.items c.in_ok-legs.legs.items
           c.in_ok-products.ensures.least
           (subst
           (λ (ps : List ℤ). (i : ℕ) (rule : LegRuleRow) → slice_get c.args.feed.now.leg_rules i ≡ Some rule →

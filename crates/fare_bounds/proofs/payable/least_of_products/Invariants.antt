@@ -8,4 +8,4 @@ use Rattle.fare_bounds.proofs.payable.least_of_products.Given as goal
 abbrev pub invariant-loop-row : goal.invariant-loop-row
 invariant-loop-row l =
     (vec_len l.amounts ≡ length l.feed.product_names)
-    × AreAmounts 1 l.amounts.items × AreFirst (IsProductRowAbove l.rider l.amounts.items) l.row-items l.row-index
+    × AreAmounts 1 l.amounts.items × AreFirst (IsProductRowAbove l.buyer l.amounts.items) l.row-items l.row-index

@@ -10,12 +10,12 @@ use Rattle.fare_price.proofs.search.first_ways.Goals as goal
 pub offer_moves-requires-clause-moves : goal.offer_moves-requires-clause-moves
 offer_moves-requires-clause-moves c =
     subst (All IsSmall) (sym c.deref.ensures.value)
-    (moves_small c.args.automaton.now.feed c.args.automaton.now.rider None (pos 0) c.args.leg.now _ c.feed-feed.ensures.sound (omega arith)
+    (moves_small c.args.automaton.now.feed c.args.automaton.now.buyer None (pos 0) c.args.leg.now _ c.feed-feed.ensures.sound (omega arith)
     (c.in_ok-start_into.ensures.enough c.args.leg.now (sym c.times_of.ensures) c.requires.enough))
 
 pub returns : goal.returns
 returns c =
-    adds_by_moves c.args.automaton.now.feed c.args.automaton.now.rider c.args.leg.now None (pos 0) (pos 0) 0 _ [] _
+    adds_by_moves c.args.automaton.now.feed c.args.automaton.now.buyer c.args.leg.now None (pos 0) (pos 0) 0 _ [] _
     (c.in_ok-start_into.ensures.enough c.args.leg.now (sym c.times_of.ensures) c.requires.enough)
     (subst (λ (moves : List Move). Gathers is_as_good [] (map (way_by (pos 0) 0) moves) c.offer_moves.new.self) c.deref.ensures.value
     (subst (λ (old : List Way). Gathers is_as_good old (map (way_by (pos 0) 0) c.deref.result.now) c.offer_moves.new.self) c.empty-ways.ensures

@@ -10,14 +10,14 @@ use Rattle.fare_price.proofs.search.offer_after.Goals as goal
 pub offer_moves-requires-clause-moves : goal.offer_moves-requires-clause-moves
 offer_moves-requires-clause-moves c =
     subst (All IsSmall) (sym c.deref.ensures.value)
-    (moves_small c.args.automaton.now.feed c.args.automaton.now.rider (Some c.args.way.now.step.state) c.args.way.now.step.held.0 c.args.leg.now _
+    (moves_small c.args.automaton.now.feed c.args.automaton.now.buyer (Some c.args.way.now.step.state) c.args.way.now.step.held.0 c.args.leg.now _
     c.feed-feed.ensures.sound c.requires.bounded.held
     (c.in_ok-cheapest_into.ensures c.args.leg.now (sym c.times_of.ensures) c.requires.enough))
 
 pub returns : goal.returns
 returns c =
     OnOk_then c.offer_moves.result
-    (λ gathers. adds_by_moves c.args.automaton.now.feed c.args.automaton.now.rider c.args.leg.now (Some c.args.way.now.step.state)
+    (λ gathers. adds_by_moves c.args.automaton.now.feed c.args.automaton.now.buyer c.args.leg.now (Some c.args.way.now.step.state)
     c.args.way.now.step.held.0 c.args.way.now.paid.0 c.args.number _ _ _
     (c.in_ok-cheapest_into.ensures c.args.leg.now (sym c.times_of.ensures) c.requires.enough)
     (subst (λ (moves : List Move). Gathers is_as_good c.args.next.now (map (way_by c.args.way.now.paid.0 c.args.number) moves) c.offer_moves.new.self)

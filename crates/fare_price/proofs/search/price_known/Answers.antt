@@ -15,12 +15,12 @@ pub returns-then-is_empty : goal.returns-then-is_empty
 returns-then-is_empty c =
     let none : c.args.legs.now ≡ [] = no_item c.args.legs.now (eqb-true _ _ (sym c.if-is_empty.ensures)) in
     let terms = c.args.known.now.terms in
-    subst (λ (choice : Choice). IsLeastPriceOfLegs terms.feed c.args.legs.now terms.rider choice (pos 0)) (sym c.no_choice.ensures)
-    (subst (λ (legs : List LegFacts). IsLeastPriceOfLegs terms.feed legs terms.rider _ (pos 0)) (sym none) (no_legs terms.feed terms.rider))
+    subst (λ (choice : Choice). IsLeastPriceOfLegs terms.feed c.args.legs.now terms.buyer choice (pos 0)) (sym c.no_choice.ensures)
+    (subst (λ (legs : List LegFacts). IsLeastPriceOfLegs terms.feed legs terms.buyer _ (pos 0)) (sym none) (no_legs terms.feed terms.buyer))
 
 pub returns-in-None : goal.returns-in-None
 returns-in-None c =
-    no_way c.args.known.now.terms.feed c.args.known.now.terms.rider c.args.legs.now c.ways_to_pay.new.steps.items c.in_ok-ways.ways
+    no_way c.args.known.now.terms.feed c.args.known.now.terms.buyer c.args.legs.now c.ways_to_pay.new.steps.items c.in_ok-ways.ways
     (length c.args.legs.now - 1) c.in_ok-ways.ensures c.in-None.ensures
 
 pub total-requires : goal.total-requires
@@ -32,10 +32,10 @@ pub returns : goal.returns
 returns c =
     let found = c.in-Some.ensures in
     let terms = c.args.known.now.terms in
-    subst (λ (price : ℤ). IsLeastPriceOfLegs terms.feed c.args.legs.now terms.rider c.in_ok-choice_of-in-Some.field-0 price)
+    subst (λ (price : ℤ). IsLeastPriceOfLegs terms.feed c.args.legs.now terms.buyer c.in_ok-choice_of-in-Some.field-0 price)
     (sym c.total.ensures)
-    (subst (λ (choice : Choice). IsLeastPriceOfLegs terms.feed c.args.legs.now terms.rider choice (cost c.in-Some.way))
+    (subst (λ (choice : Choice). IsLeastPriceOfLegs terms.feed c.args.legs.now terms.buyer choice (cost c.in-Some.way))
     (sym (c.in_ok-choice_of-in-Some.ensures
     ∙ ap (λ (steps : List Way). choice_of steps (length c.args.legs.now - 1) c.in-Some.way) c.deref.ensures.value))
-    (least_way terms.feed terms.rider c.args.legs.now c.ways_to_pay.new.steps.items c.in_ok-ways.ways
+    (least_way terms.feed terms.buyer c.args.legs.now c.ways_to_pay.new.steps.items c.in_ok-ways.ways
     (length c.args.legs.now - 1) c.in_ok-ways.ensures c.in-Some.way found.0 found.1))

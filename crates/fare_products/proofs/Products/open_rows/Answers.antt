@@ -7,5 +7,5 @@ use Rattle.fare_products.proofs.Products.open_rows.Goals as goal
 pub returns : goal.returns
 returns c = λ feed are.
     let all = take_all c.loop-offer.offer-index c.offers-offer-items.result.now c.loop-offer-test.false in
-    c.loop-offer.invariant ∙ ap (opened c.args.rider) (all ∙ c.offers-offer-items.ensures)
-    ∙ opened_is feed c.args.self.now are c.args.product c.args.rider
+    c.loop-offer.invariant ∙ ap (opened c.args.buyer) (all ∙ c.offers-offer-items.ensures)
+    ∙ opened_is feed c.args.self.now are c.args.product c.args.buyer

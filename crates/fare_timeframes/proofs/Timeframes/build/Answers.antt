@@ -5,11 +5,12 @@ use Rattle.fare_timeframes.proofs.Timeframes.build.Goals as goal
 
 pub returns : goal.returns
 returns c =
-    let rows = c.in_ok-rows_by_frame.ensures in
+    let rows = c.in_ok-rows.ensures in
     record {
       days = rw c.new.ensures.items (All-nil (IsDayOf _));
-      calendar = c.in_ok-build.ensures;
-      areas = c.in_ok-build-2.ensures;
+      calendar = c.requires;
+      cuts = c.in_ok-cuts.ensures;
+      areas = c.in_ok-areas.ensures;
       count = rw (← c.feed.view_is) c.items.ensures.len;
       rises = rows.rises;
       has = rw (← c.feed.view_is) (group_has _ _ _ _ c.feed.invariant.timeframes c.items-2.ensures.value c.items.ensures.len rows);

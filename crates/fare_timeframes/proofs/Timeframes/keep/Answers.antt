@@ -6,6 +6,7 @@ pub returns : goal.returns
 returns c = λ feed are.
     record {
       calendar = are.calendar;
+      cuts = are.cuts;
       areas = are.areas;
       count = are.count;
       rises = are.rises;

@@ -1,7 +1,7 @@
 use Rattle.std.proofs.Common.{◌≡◌, take, ◌++◌, ◌∷◌, [], sym, ◌∙◌, ap, subst, arith, ◌+◌}
 use Rattle.std.proofs.lemmas.List.{take_more}
 use Rattle.label_bag.specs.Bags.{Gathers}
-use Rattle.label_bag.proofs.BagLaws.{of_answer, gathers-none, gathers-more}
+use Rattle.label_bag.proofs.BagLaws.{of_answer, gathers-none, gathers-then}
 use Rattle.label_bag.proofs.bag.offer_all.Goals as goal
 
 pub loop-label-init : goal.loop-label-init
@@ -13,6 +13,6 @@ loop-label-preserved g c =
     take_more _ c.loop-label.label-index c.label-item.result c.loop-label-test.true ∙ ap (λ x. take c.loop-label.label-index c.args.labels.now ++ x ∷ []) (sym c.label-item.is) in
     record {
       gathers = subst (λ xs. Gathers g.L.LabelOrder.at_most (g.B.Bag.content c.args.bag.now) xs (g.B.Bag.content c.offer.new.self)) (sym more)
-          (gathers-more _ _ _ _ _ _ c.loop-label.invariant.gathers (of_answer c.offer.result (sym c.if-is_err.ensures.value) c.offer.ensures.gathers));
+          (gathers-then _ _ _ _ _ _ c.loop-label.invariant.gathers (of_answer c.offer.result (sym c.if-is_err.ensures.value) c.offer.ensures.gathers));
       room = omega (arith, c.offer.ensures.spare, c.loop-label.invariant.room);
     }

@@ -2,7 +2,7 @@ use Rattle.std.proofs.Common.{subst}
 use Rattle.std.specs.Prelude.{IfErr, OnOk}
 use Rattle.std.proofs.lemmas.Result.{IfOk-weaker}
 use Rattle.plan_words.specs.Errors.{IsErrorOf}
-use Rattle.plan_app.specs.Made.{Stops}
+use Rattle.plan_app.specs.Made.{Fails}
 use Rattle.plan_app.specs.Run.{Reads}
 use Rattle.plan_app.proofs.MadeLaws.{some_files}
 use Rattle.plan_app.proofs.made.made.Goals as goal
@@ -20,7 +20,7 @@ returns-in-Ok-clause-ok g c =
 pub returns-in-Ok-clause-err : goal.returns-in-Ok-clause-err
 returns-in-Ok-clause-err g c =
     let state = g.F.Folder.state in
-    subst (λ asked. IfErr c.made_for.result (λ stop. Stops stop asked (state c.args.folder.now) (state c.made_for.new.folder)))
+    subst (λ asked. IfErr c.made_for.result (λ failure. Fails failure asked (state c.args.folder.now) (state c.made_for.new.folder)))
     c.in-Ok.ensures.value c.made_for.ensures.err
 
 pub returns-in_ok-refused-in-Err-Usage-clause-made : goal.returns-in_ok-refused-in-Err-Usage-clause-made

@@ -3,4 +3,4 @@ use Rattle.plan_rides.proofs.boards.add_patterns.Given as goal
 
 abbrev pub invariant-loop-pattern : goal.invariant-loop-pattern
 invariant-loop-pattern l =
-    AddsBoards l.timetable l.query l.spans (IsOfPatterns l.patterns.patterns l.pattern) l.fn.boards l.boards
+    AddsBoards l.timetable l.window l.spans (IsOfPatterns l.patterns.patterns l.pattern) l.fn.boards l.boards

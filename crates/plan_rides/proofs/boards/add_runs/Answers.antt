@@ -10,11 +10,11 @@ loop-k-preserved c =
     elim c.if-begins_trip.branch [
       | then-begins_trip w ↦
           rw w.boards-is
-          (runs_more c.args.timetable.now c.args.query.now c.args.spans.now c.args.runs.now c.loop-k.k _ _ _ _
+          (runs_more c.args.timetable.now c.args.window c.args.spans.now c.args.runs.now c.loop-k.k _ _ _ _
           c.loop-k-test.true c.loop-k.invariant w.add_trip.ensures)
       | else-begins_trip w ↦
           rw w.boards-is
-          (runs_own c.args.timetable.now c.args.query.now c.args.spans.now c.args.runs.now c.loop-k.k _ _
+          (runs_own c.args.timetable.now c.args.window c.args.spans.now c.args.runs.now c.loop-k.k _ _
           (c.begins_trip.ensures w.if-begins_trip.false) c.loop-k.invariant)
     ]
 

@@ -38,7 +38,7 @@ loop-k-preserved c =
           c.sooner-end.ensures.one (λ until off enough. c.sooner-end.ensures.other until
           (c.end_at.ensures until off enough))
           was.ends;
-      adds = call_more c.args.timetable.now c.args.query.now c.args.spans.now c.args.trip c.feed-feed.ensures.sound
+      adds = call_more c.args.timetable.now c.args.window c.args.spans.now c.args.trip c.feed-feed.ensures.sound
           c.requires.spans c.calls_of-calls.result (k - 1) k _ c.loop-k.end _ _ _ c.calls_of-calls.ensures.value next
           c.at-call.ensures was.ends was.adds c.put_board.ensures;
     }

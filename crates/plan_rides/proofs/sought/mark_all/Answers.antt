@@ -11,7 +11,7 @@ loop-k-init c = record {
 
 pub loop-k-preserved : goal.loop-k-preserved
 loop-k-preserved c = record {
-  many = c.mark_from.ensures.adds.many ∙ c.loop-k.invariant.many;
+  many = c.mark_from.ensures.adds.right ∙ c.loop-k.invariant.many;
   firsts = λ query. marks_first c.args.timetable.now query c.args.firsts.now c.loop-k.k _ _ _ _ c.loop-k-test.true
       (c.loop-k.invariant.firsts query) c.mark_from.ensures.adds (c.mark_from.ensures.all query);
 }

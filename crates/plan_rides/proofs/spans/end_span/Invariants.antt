@@ -1,6 +1,7 @@
 use Rattle.std.proofs.Common.{◌≡◌, ◌≤◌, true, ℕ, pos}
 use Rattle.std.specs.Prelude.{Some}
 use Rattle.transit_base.specs.declared.numbers.StopId.{StopId}
+use Rattle.feed_rows.specs.declared.journeys.Query.{Query}
 use Rattle.feed_rows.specs.Journeys.{egress}
 use Rattle.plan_rides.specs.Boarding.{IsAmong}
 use Rattle.plan_rides.specs.Cutoffs.{is_span}
@@ -8,5 +9,5 @@ use Rattle.plan_rides.proofs.spans.end_span.Given as goal
 
 abbrev pub invariant-loop-k : goal.invariant-loop-k
 invariant-loop-k l =
-    (last : StopId) (seconds : ℕ) → IsAmong l.lasts l.k last → egress l.timetable l.query l.stop last ≡ Some seconds →
-    seconds ≤ l.query.window → is_span l.span (pos seconds) ≡ true
+    (query : Query) → query.to ≡ l.to → (last : StopId) (seconds : ℕ) → IsAmong l.lasts l.k last →
+    egress l.timetable query l.stop last ≡ Some seconds → seconds ≤ l.window → is_span l.span (pos seconds) ≡ true

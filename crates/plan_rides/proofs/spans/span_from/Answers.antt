@@ -9,7 +9,7 @@ loop-k-preserved c =
     let none : Step = record { to = record { 0 = 0 }; seconds = record { 0 = 0 } } in
     record {
       own = λ secs is. c.shorter-span.ensures.one secs (c.loop-k.invariant.own secs is);
-      walks = walks_more c.args.query.now c.args.boards.now c.walks_from-walks.result.now c.loop-k.k none
+      walks = walks_more c.args.window c.args.boards.now c.walks_from-walks.result.now c.loop-k.k none
           c.loop-k.span c.shorter-span.result
           c.loop-k-test.true c.shorter-span.ensures.one
           (λ secs few is. c.shorter-span.ensures.other secs (c.behind_walk.ensures secs few

@@ -1,3 +1,4 @@
+use Rattle.feed_rows.specs.Limits.{most_rides}
 use Rattle.std.proofs.Common.{◌<◌, ◌≤◌}
 use Rattle.plain_laws.proofs.Laws.{All-slice_get}
 use Rattle.round_labels.specs.declared.label.Label.{Label}
@@ -6,7 +7,7 @@ use Rattle.round_table.proofs.table.members_of.Goals as goal
 
 pub group_of-group-requires-clause-few : goal.group_of-group-requires-clause-few
 group_of-group-requires-clause-few c =
-    All-slice_get (λ (x : Label). x.rides ≤ 8) c.args.labels.now _ _ c.kept.ensures.is c.requires.few
+    All-slice_get (λ (x : Label). x.rides ≤ most_rides) c.args.labels.now _ _ c.kept.ensures.is c.requires.few
 
 pub group_of-group-requires-clause-inside : goal.group_of-group-requires-clause-inside
 group_of-group-requires-clause-inside c =

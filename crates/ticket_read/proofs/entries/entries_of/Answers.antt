@@ -4,8 +4,5 @@ use Rattle.ticket_read.proofs.entries.entries_of.Goals as goal
 pub returns-in-Ok-clause-one : goal.returns-in-Ok-clause-one
 returns-in-Ok-clause-one c = one_list_by_text c.args.timetable.now c.args.query.now c.feed.ensures.sound
 
-pub returns-clause-one : goal.returns-clause-one
-returns-clause-one c = one_list_by_text c.args.timetable.now c.args.query.now c.feed.ensures.sound
-
-pub returns-in_err-timeframes-clause-one : goal.returns-in_err-timeframes-clause-one
-returns-in_err-timeframes-clause-one c = one_list_by_text c.args.timetable.now c.args.query.now c.feed.ensures.sound
+pub returns-in-Err-clause-one : goal.returns-in-Err-clause-one
+returns-in-Err-clause-one c = one_list_by_text c.args.timetable.now c.args.query.now c.feed.ensures.sound

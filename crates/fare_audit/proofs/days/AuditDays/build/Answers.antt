@@ -25,7 +25,7 @@ loop-service-preserved c =
     let n = c.loop-service.service in
     let was = c.loop-service.invariant in
     let active = c.in_ok-active.active.items in
-    let act = c.in_ok-active.ensures feed c.in_ok-calendar.ensures in
+    let act = c.in_ok-active.ensures feed c.requires.calendar in
     record {
       one = ap length c.in_ok-push.ensures.ok ∙ length_push _ _ ∙ ap (λ k. k + 1) was.one;
       two = ap length c.in_ok-push-2.ensures.ok ∙ length_push _ _ ∙ ap (λ k. k + 1) was.two;

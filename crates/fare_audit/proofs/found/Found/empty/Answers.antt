@@ -11,7 +11,7 @@ returns c =
       many = ap length (c.in_ok-vec.ensures.items_if_clones_equal (λ y same. same)) ∙ length-replicate _ false ∙ sym many;
       used = λ i at. absurd (none_marked _ _ i (c.in_ok-vec.ensures.items_if_clones_equal (λ y same. same)) at);
       gaps = λ pair at. absurd (none_in pair (rw c.new.ensures.items at at));
-      noted = λ pair at. absurd (c.in_ok-unfilled-2.ensures pair at);
-      verdicts = λ verdict at. absurd (c.in_ok-unfilled.ensures verdict at);
+      noted = λ pair at. absurd (c.in_ok-of-2.ensures pair at);
+      verdicts = λ ride has at. absurd (c.in_ok-of.ensures ride has at);
       walked = λ from to lt e f at. absurd (none-some e (rw c.new-2.ensures.items at at));
     }

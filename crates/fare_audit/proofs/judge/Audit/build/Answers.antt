@@ -6,9 +6,8 @@ invariant_of-result c =
       low = c.requires.low;
       high = c.requires.high;
       few = c.requires.few;
-      timeframes = c.in_ok-timeframes.ensures;
+      timeframes = c.in-Ok.ensures;
       rules = c.in_ok-rules.ensures;
       products = c.in_ok-products.ensures;
       likes = c.in_ok-likes.ensures;
-      cuts = c.in_ok-cuts.ensures;
     }

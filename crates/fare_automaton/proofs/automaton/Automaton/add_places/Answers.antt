@@ -11,7 +11,7 @@ use Rattle.fare_automaton.proofs.automaton.Automaton.add_places.Goals as goal
 pub returns-then-is_some : goal.returns-then-is_some
 returns-then-is_some c =
     let feed = c.args.self.now.feed in
-    let rider = c.args.self.now.rider in
+    let buyer = c.args.self.now.buyer in
     let change = asked_of c.args.change.now in
     let among = c.rows_between-among.result.now in
     let are = c.rows_between-among.ensures in
@@ -19,8 +19,8 @@ returns-then-is_some c =
     let is_least = c.least_count-least.ensures in
     on_ok_weaker c.push_places.result
     (λ is. is ∙ ap (λ (xs : List (Option ChangeChoice)). c.args.places.now.items ++ xs)
-    (places_are feed change among are least is_least rider
-    ∙ list_arranged feed rider change (c.if-is_some.ensures ∙ some_is feed change among are least is_least)))
+    (places_are feed change among are least is_least buyer
+    ∙ list_arranged feed buyer change (c.if-is_some.ensures ∙ some_is feed change among are least is_least)))
     c.push_places.ensures
 
 pub returns-else-is_some : goal.returns-else-is_some
@@ -29,6 +29,6 @@ returns-else-is_some c =
     let change = asked_of c.args.change.now in
     on_ok_weaker c.push_place.result
     (λ is. is ∙ ap (λ (xs : List (Option ChangeChoice)). c.args.places.now.items ++ xs)
-    (list_unarranged feed c.args.self.now.rider change
+    (list_unarranged feed c.args.self.now.buyer change
     (c.if-is_some.ensures ∙ some_is feed change c.rows_between-among.result.now c.rows_between-among.ensures c.least_count-least.result c.least_count-least.ensures)))
     c.push_place.ensures

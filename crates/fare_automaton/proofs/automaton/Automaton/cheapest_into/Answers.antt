@@ -19,7 +19,7 @@ loop-number-init c = record {
 pub loop-number-preserved : goal.loop-number-preserved
 loop-number-preserved c = record {
   moves = fewer_more
-      (next_made c.args.self.now.feed c.args.self.now.rider c.args.state.now c.args.held.0 c.args.times)
+      (next_made c.args.self.now.feed c.args.self.now.buyer c.args.state.now c.args.held.0 c.args.times)
       c.args.options.now c.loop-number.number _ _ _ (omega arith) c.loop-number.invariant.moves c.in_ok-known.ensures.moves;
   known = c.in_ok-known.ensures.known;
 }
@@ -27,13 +27,13 @@ loop-number-preserved c = record {
 pub returns : goal.returns
 returns c leg same picks =
     let feed = c.args.self.now.feed in
-    let rider = c.args.self.now.rider in
+    let buyer = c.args.self.now.buyer in
     let state = c.args.state.now in
     let held = c.args.held.0 in
     let options = c.args.options.now in
-    let all = λ (n : ℕ) (times : LegTimes). joined_below n (made_at (next_made feed rider state held times) options) in
+    let all = λ (n : ℕ) (times : LegTimes). joined_below n (made_at (next_made feed buyer state held times) options) in
     let whole : c.loop-number.number ≡ length options = omega arith in
-    enough_fewer feed rider (Some state) held leg (all (length options) c.args.times) c.loop-number.moves.items
-    (steps_enough feed rider state held leg options (all (length options) c.args.times) picks
+    enough_fewer feed buyer (Some state) held leg (all (length options) c.args.times) c.loop-number.moves.items
+    (steps_enough feed buyer state held leg options (all (length options) c.args.times) picks
     (ap (all (length options)) (sym same)))
     (subst (λ (n : ℕ). AreFewerMoves (all n c.args.times) c.loop-number.moves.items) whole c.loop-number.invariant.moves)

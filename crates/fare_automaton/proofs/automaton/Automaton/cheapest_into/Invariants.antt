@@ -7,6 +7,6 @@ use Rattle.fare_automaton.proofs.automaton.Automaton.cheapest_into.Given as goal
 
 abbrev pub invariant-loop-number : goal.invariant-loop-number
 invariant-loop-number l = record {
-  moves : AreFewerMoves (joined_below l.number (made_at (next_made l.self.feed l.self.rider l.state l.held.0 l.times) l.options)) l.moves.items;
-  known : ForSome l.known (HasPlaces l.self.feed l.self.rider l.state l.times l.places.items);
+  moves : AreFewerMoves (joined_below l.number (made_at (next_made l.self.feed l.self.buyer l.state l.held.0 l.times) l.options)) l.moves.items;
+  known : ForSome l.known (HasPlaces l.self.feed l.self.buyer l.state l.times l.places.items);
 }

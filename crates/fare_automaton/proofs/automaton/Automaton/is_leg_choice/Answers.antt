@@ -11,7 +11,7 @@ pub returns-then-selects : goal.returns-then-selects
 returns-then-selects c =
     let leg = c.args.leg.now in
     let taken = c.args.taken.now in
-    leg_choice_by c.args.self.now.feed c.args.rider leg (leg_taken taken) c.in-Some.own.now true _ c.in-Some.ensures
+    leg_choice_by c.args.self.now.feed c.args.buyer leg (leg_taken taken) c.in-Some.own.now true _ c.in-Some.ensures
     (c.if-selects.ensures _ c.self.invariant.0 ∙ ap (λ (t : FareTerms). at_and t.feed.leg_rules taken.rule.0 (is_selected_rule t.feed leg)) c.self.view_is)
     c.is_open_row.ensures
 
@@ -20,10 +20,10 @@ returns-else-selects c =
     let leg = c.args.leg.now in
     let taken = c.args.taken.now in
     c.if-selects.false
-    ∙ leg_choice_by c.args.self.now.feed c.args.rider leg (leg_taken taken) c.in-Some.own.now false _ c.in-Some.ensures
+    ∙ leg_choice_by c.args.self.now.feed c.args.buyer leg (leg_taken taken) c.in-Some.own.now false _ c.in-Some.ensures
     (c.if-selects.ensures _ c.self.invariant.0 ∙ ap (λ (t : FareTerms). at_and t.feed.leg_rules taken.rule.0 (is_selected_rule t.feed leg)) c.self.view_is)
     refl
 
 pub returns-in-None : goal.returns-in-None
 returns-in-None c =
-    leg_choice_past c.args.self.now.feed c.args.rider c.args.leg.now (leg_taken c.args.taken.now) c.in-None.ensures
+    leg_choice_past c.args.self.now.feed c.args.buyer c.args.leg.now (leg_taken c.args.taken.now) c.in-None.ensures

@@ -12,11 +12,11 @@ use Rattle.fare_automaton.proofs.automaton.Automaton.options.Goals as goal
 pub returns-in-Ok : goal.returns-in-Ok
 returns-in-Ok c =
     let feed = c.args.self.now.feed in
-    let rider = c.args.self.now.rider in
+    let buyer = c.args.self.now.buyer in
     let leg = c.args.leg.now in
-    IfOk-weaker c.picks_of.result _ (λ picks. ArePicks feed rider leg picks.items)
-    (λ picks is. are_picks feed rider leg picks.items
-    (is ∙ ap (flat_map (λ (rule : RuleId). rule_picks feed rider rule.0))
+    IfOk-weaker c.picks_of.result _ (λ picks. ArePicks feed buyer leg picks.items)
+    (λ picks is. are_picks feed buyer leg picks.items
+    (is ∙ ap (flat_map (λ (rule : RuleId). rule_picks feed buyer rule.0))
     (c.items.ensures.value ∙ c.in-Ok.ensures _ c.self.invariant.0 ∙ ap (λ (t : FareTerms). selected_rules t.feed leg) c.self.view_is)
-    ∙ picks_are feed rider leg))
+    ∙ picks_are feed buyer leg))
     c.picks_of.ensures

@@ -7,4 +7,4 @@ use Rattle.fare_automaton.proofs.automaton.Automaton.picks_of.Given as goal
 
 abbrev pub invariant-loop-rule : goal.invariant-loop-rule
 invariant-loop-rule l =
-    l.picks.items ≡ flat_map (λ (rule : RuleId). rule_picks l.self.feed l.self.rider rule.0) (take l.rule-index l.rules)
+    l.picks.items ≡ flat_map (λ (rule : RuleId). rule_picks l.self.feed l.self.buyer rule.0) (take l.rule-index l.rules)

@@ -11,17 +11,17 @@ pub returns-in-Some : goal.returns-in-Some
 returns-in-Some c =
     on_ok_weaker c.push_product.result
     (λ is. is
-    ∙ chosen_places-where c.args.self.now.feed c.args.self.now.rider (asked_of c.args.change.now) c.args.least c.args.rule c.in-Some.row.now true
+    ∙ chosen_places-where c.args.self.now.feed c.args.self.now.buyer (asked_of c.args.change.now) c.args.least c.args.rule c.in-Some.row.now true
     c.args.places.now.items (sym c.in-Some.ensures) c.if-is_chosen.ensures)
     c.push_product.ensures
 
 pub returns-in_default : goal.returns-in_default
 returns-in_default c =
     sym (append-nil c.args.places.now.items)
-    ∙ chosen_places-where c.args.self.now.feed c.args.self.now.rider (asked_of c.args.change.now) c.args.least c.args.rule c.in-Some.row.now false
+    ∙ chosen_places-where c.args.self.now.feed c.args.self.now.buyer (asked_of c.args.change.now) c.args.least c.args.rule c.in-Some.row.now false
     c.args.places.now.items (sym c.in-Some.ensures) c.if-is_chosen.ensures
 
 pub returns-in_default-2 : goal.returns-in_default-2
 returns-in_default-2 c =
-    chosen_places-past c.args.self.now.feed c.args.self.now.rider (asked_of c.args.change.now) c.args.least c.args.rule c.args.places.now.items
+    chosen_places-past c.args.self.now.feed c.args.self.now.buyer (asked_of c.args.change.now) c.args.least c.args.rule c.args.places.now.items
     (sym c.transfer_row.ensures ∙ ap option_copied c.in_default.is)

@@ -11,7 +11,7 @@ use Rattle.fare_automaton.proofs.automaton.Automaton.push_next.Goals as goal
 
 pub keep_places-requires-clause-next : goal.keep_places-requires-clause-next
 keep_places-requires-clause-next c =
-    chosen_moments c.args.self.now.feed c.args.self.now.rider c.args.state.now c.args.held.0 c.args.times c.args.pick.now
+    chosen_moments c.args.self.now.feed c.args.self.now.buyer c.args.state.now c.args.held.0 c.args.times c.args.pick.now
     c.in-Some.next c.in-Some.ensures
 
 pub returns-in_ok-push_moves-in-Some-clause-moves : goal.returns-in_ok-push_moves-in-Some-clause-moves
@@ -25,5 +25,5 @@ returns-in_ok-push_moves-in-Some-clause-moves c =
     ∙ ap (λ (places : List (Option ChangeChoice)). c.args.moves.now.items
     ++ map (λ place. next_move feed state held (leg_of next) (bare pick place)) places) c.deref.ensures.value
     ∙ ap (λ (xs : List Move). c.args.moves.now.items ++ xs)
-    (made_by_places feed c.args.self.now.rider state held c.args.times pick next c.keep_places.new.places.items
+    (made_by_places feed c.args.self.now.buyer state held c.args.times pick next c.keep_places.new.places.items
     c.in-Some.ensures c.in_ok-keep_places-in-Some.ensures)

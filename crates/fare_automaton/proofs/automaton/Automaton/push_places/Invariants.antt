@@ -9,4 +9,4 @@ use Rattle.fare_automaton.proofs.automaton.Automaton.push_places.Given as goal
 abbrev pub invariant-loop-classed : goal.invariant-loop-classed
 invariant-loop-classed l =
     l.places.items
-    ≡ l.fn.places.items ++ flat_map (λ (r : ClassedRow). chosen_places l.self.feed l.self.rider (asked_of l.change) l.least r.row) (take l.classed-index l.among)
+    ≡ l.fn.places.items ++ flat_map (λ (r : ClassedRow). chosen_places l.self.feed l.self.buyer (asked_of l.change) l.least r.row) (take l.classed-index l.among)

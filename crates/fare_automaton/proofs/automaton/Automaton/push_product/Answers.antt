@@ -15,6 +15,6 @@ returns-in-Some c =
     (λ is. is
     ∙ ap (λ (rows : List ProductRowId). c.args.places.now.items ++ map (λ (row : ProductRowId). place_of c.args.rule.0 (Some row.0)) rows) c.open_rows.ensures
     ∙ ap (λ (xs : List (Option ChangeChoice)). c.args.places.now.items ++ xs)
-    (product_places-rows c.args.self.now.feed c.args.self.now.rider c.args.rule c.in-Some.own)
-    ∙ ap (λ (product : Option ProductId). c.args.places.now.items ++ product_places c.args.self.now.feed c.args.self.now.rider c.args.rule.0 product) (sym c.in-Some.is))
+    (product_places-rows c.args.self.now.feed c.args.self.now.buyer c.args.rule c.in-Some.own)
+    ∙ ap (λ (product : Option ProductId). c.args.places.now.items ++ product_places c.args.self.now.feed c.args.self.now.buyer c.args.rule.0 product) (sym c.in-Some.is))
     c.push_product_rows.ensures

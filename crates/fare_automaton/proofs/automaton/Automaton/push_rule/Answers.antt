@@ -14,9 +14,9 @@ returns-in-Some c =
     (λ is. is
     ∙ ap (λ (rows : List ProductRowId). c.args.picks.now.items ++ map (λ (row : ProductRowId). pick_of rule.0 row.0) rows) c.open_rows.ensures
     ∙ ap (λ xs. c.args.picks.now.items ++ xs)
-    (rule_picks-rows c.args.self.now.feed c.args.self.now.rider rule c.in-Some.own.now (sym c.in-Some.ensures)))
+    (rule_picks-rows c.args.self.now.feed c.args.self.now.buyer rule c.in-Some.own.now (sym c.in-Some.ensures)))
     c.push_rows.ensures
 
 pub returns-in-None : goal.returns-in-None
 returns-in-None c =
-    rule_picks-past c.args.self.now.feed c.args.self.now.rider c.args.rule c.args.picks.now.items (sym c.in-None.ensures)
+    rule_picks-past c.args.self.now.feed c.args.self.now.buyer c.args.rule c.args.picks.now.items (sym c.in-None.ensures)

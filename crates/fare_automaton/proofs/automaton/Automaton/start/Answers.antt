@@ -8,8 +8,8 @@ use Rattle.fare_automaton.proofs.automaton.Automaton.start.Goals as goal
 pub returns : goal.returns
 returns c =
     let feed = c.args.self.now.feed in
-    let rider = c.args.self.now.rider in
+    let buyer = c.args.self.now.buyer in
     let leg = c.args.leg.now in
-    let picks = subst (ArePicks feed rider leg) (sym c.deref.ensures.value) c.in_ok-options.ensures in
+    let picks = subst (ArePicks feed buyer leg) (sym c.deref.ensures.value) c.in_ok-options.ensures in
     let are = c.in_ok-start_into.ensures.all leg (sym c.times_of.ensures) picks in
-    IfOk-weaker c.move_list.result _ _ (λ list is. subst (AreStarts feed rider leg) (sym (is ∙ c.deref-2.ensures.value)) are) c.move_list.ensures
+    IfOk-weaker c.move_list.result _ _ (λ list is. subst (AreStarts feed buyer leg) (sym (is ∙ c.deref-2.ensures.value)) are) c.move_list.ensures

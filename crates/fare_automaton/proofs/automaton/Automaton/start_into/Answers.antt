@@ -19,22 +19,22 @@ loop-number-preserved c =
 pub returns-clause-all : goal.returns-clause-all
 returns-clause-all c leg same picks =
     let feed = c.args.self.now.feed in
-    let rider = c.args.self.now.rider in
+    let buyer = c.args.self.now.buyer in
     let options = c.args.options.now in
     let moves = c.loop-number.moves.items in
     let whole : c.loop-number.number ≡ length options = omega arith in
-    let are = starts_are feed rider leg options moves picks
+    let are = starts_are feed buyer leg options moves picks
     (c.loop-number.invariant ∙ ap (λ (n : ℕ). joined_below n (made_at (first_made feed c.args.times) options)) whole
     ∙ ap (λ (times : LegTimes). joined_below (length options) (made_at (first_made feed times) options)) (sym same)) in
-    record { exact = are; extends = λ choice pays. start_extends feed rider leg choice moves pays are }
+    record { exact = are; extends = λ choice pays. start_extends feed buyer leg choice moves pays are }
 
 pub returns-clause-enough : goal.returns-clause-enough
 returns-clause-enough c leg same picks =
     let feed = c.args.self.now.feed in
-    let rider = c.args.self.now.rider in
+    let buyer = c.args.self.now.buyer in
     let options = c.args.options.now in
     let moves = c.loop-number.moves.items in
     let whole : c.loop-number.number ≡ length options = omega arith in
-    starts_enough feed rider leg options moves picks
+    starts_enough feed buyer leg options moves picks
     (c.loop-number.invariant ∙ ap (λ (n : ℕ). joined_below n (made_at (first_made feed c.args.times) options)) whole
     ∙ ap (λ (times : LegTimes). joined_below (length options) (made_at (first_made feed times) options)) (sym same))

@@ -8,9 +8,9 @@ use Rattle.fare_automaton.proofs.automaton.Automaton.step.Goals as goal
 pub returns : goal.returns
 returns c =
     let feed = c.args.self.now.feed in
-    let rider = c.args.self.now.rider in
+    let buyer = c.args.self.now.buyer in
     let leg = c.args.leg.now in
-    let picks = subst (ArePicks feed rider leg) (sym c.deref.ensures.value) c.in_ok-options.ensures in
+    let picks = subst (ArePicks feed buyer leg) (sym c.deref.ensures.value) c.in_ok-options.ensures in
     let are = c.in_ok-step_into.ensures.all leg (sym c.times_of.ensures) picks in
     IfOk-weaker c.move_list.result _ _
-    (λ list is. subst (AreSteps feed rider c.args.state.now c.args.held.0 leg) (sym (is ∙ c.deref-2.ensures.value)) are) c.move_list.ensures
+    (λ list is. subst (AreSteps feed buyer c.args.state.now c.args.held.0 leg) (sym (is ∙ c.deref-2.ensures.value)) are) c.move_list.ensures

@@ -15,7 +15,7 @@ loop-number-init c = record { moves = c.clear.ensures.items; known = λ group is
 pub loop-number-preserved : goal.loop-number-preserved
 loop-number-preserved c = record {
   moves = added_made _ _
-      (next_made c.args.self.now.feed c.args.self.now.rider c.args.state.now c.args.held.0 c.args.times)
+      (next_made c.args.self.now.feed c.args.self.now.buyer c.args.state.now c.args.held.0 c.args.times)
       c.args.options.now c.loop-number.number _ (omega arith) c.loop-number.invariant.moves c.in_ok-known.ensures.moves;
   known = c.in_ok-known.ensures.known;
 }
@@ -23,30 +23,30 @@ loop-number-preserved c = record {
 pub returns-clause-all : goal.returns-clause-all
 returns-clause-all c leg same picks =
     let feed = c.args.self.now.feed in
-    let rider = c.args.self.now.rider in
+    let buyer = c.args.self.now.buyer in
     let state = c.args.state.now in
     let held = c.args.held.0 in
     let options = c.args.options.now in
     let moves = c.loop-number.moves.items in
     let whole : c.loop-number.number ≡ length options = omega arith in
-    let are = steps_are feed rider state held leg options moves picks
-    (c.loop-number.invariant.moves ∙ ap (λ (n : ℕ). joined_below n (made_at (next_made feed rider state held c.args.times) options)) whole
-    ∙ ap (λ (times : LegTimes). joined_below (length options) (made_at (next_made feed rider state held times) options)) (sym same)) in
+    let are = steps_are feed buyer state held leg options moves picks
+    (c.loop-number.invariant.moves ∙ ap (λ (n : ℕ). joined_below n (made_at (next_made feed buyer state held c.args.times) options)) whole
+    ∙ ap (λ (times : LegTimes). joined_below (length options) (made_at (next_made feed buyer state held times) options)) (sym same)) in
     record {
       exact = are;
       extends = λ legs choice pays has_state has_held.
-          step_extends feed rider legs choice leg state held moves pays has_state has_held are;
+          step_extends feed buyer legs choice leg state held moves pays has_state has_held are;
     }
 
 pub returns-clause-enough : goal.returns-clause-enough
 returns-clause-enough c leg same picks =
     let feed = c.args.self.now.feed in
-    let rider = c.args.self.now.rider in
+    let buyer = c.args.self.now.buyer in
     let state = c.args.state.now in
     let held = c.args.held.0 in
     let options = c.args.options.now in
     let moves = c.loop-number.moves.items in
     let whole : c.loop-number.number ≡ length options = omega arith in
-    steps_enough feed rider state held leg options moves picks
-    (c.loop-number.invariant.moves ∙ ap (λ (n : ℕ). joined_below n (made_at (next_made feed rider state held c.args.times) options)) whole
-    ∙ ap (λ (times : LegTimes). joined_below (length options) (made_at (next_made feed rider state held times) options)) (sym same))
+    steps_enough feed buyer state held leg options moves picks
+    (c.loop-number.invariant.moves ∙ ap (λ (n : ℕ). joined_below n (made_at (next_made feed buyer state held c.args.times) options)) whole
+    ∙ ap (λ (times : LegTimes). joined_below (length options) (made_at (next_made feed buyer state held times) options)) (sym same))

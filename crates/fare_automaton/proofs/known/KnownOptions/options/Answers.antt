@@ -9,7 +9,7 @@ use Rattle.fare_automaton.proofs.known.KnownOptions.options.Goals as goal
 pub returns : goal.returns
 returns c = λ leg kind.
     let terms = c.self.inside.automaton.now in
-    subst (λ (k : KnownPicks). AreEnough k.terms.feed k.terms.rider leg c.list.result.now) c.self.view_is
-    (subst (AreEnough terms.feed terms.rider leg) (sym c.list.ensures)
+    subst (λ (k : KnownPicks). AreEnough k.terms.feed k.terms.buyer leg c.list.result.now) c.self.view_is
+    (subst (AreEnough terms.feed terms.buyer leg) (sym c.list.ensures)
     (picks_kept terms c.self.inside.table leg c.args.number c.self.invariant
     (subst (λ (k : KnownPicks). IsOfKind k.lists leg c.args.number) (sym c.self.view_is) kind)))

@@ -17,8 +17,8 @@ invariant_of-self c =
     let few = subst (λ options. AreFewer terms.feed options c.in_ok-fewest.fewest.items) c.deref.ensures.value c.in_ok-fewest.ensures in
     let picks = c.in_ok-fewest.fewest.items in
     picks_still terms c.self.inside.table c.keep.new.self (kept_for c.args.leg.now picks) c.keep.result c.keep.ensures.kept c.keep.ensures.err
-    c.self.invariant (without_moments terms.feed terms.rider c.args.leg.now picks
-    (enough_of terms.feed terms.rider c.args.leg.now _ picks c.in_ok-options.ensures few))
+    c.self.invariant (without_moments terms.feed terms.buyer c.args.leg.now picks
+    (enough_of terms.feed terms.buyer c.args.leg.now _ picks c.in_ok-options.ensures few))
 
 pub returns-clause-known : goal.returns-clause-known
 returns-clause-known c =

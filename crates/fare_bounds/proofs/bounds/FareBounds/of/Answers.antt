@@ -45,7 +45,7 @@ pub returns : goal.returns
 returns c =
     let levels = c.loop-more.levels.items in
     let lates = c.loop-more.lates.items in
-    bounds_are c.args.feed.now c.args.rider c.args.lasts.now c.in_ok-amounts.amounts c.in_ok-limits.limits.items
+    bounds_are c.args.feed.now c.args.buyer c.args.lasts.now c.in_ok-amounts.amounts c.in_ok-limits.limits.items
     levels lates c.args.rides c.in_ok-amounts.ensures.least c.in_ok-amounts.ensures.ends c.in_ok-limits.ensures
     (subst (λ (n : ℕ). AreLevels c.args.feed.now c.in_ok-amounts.amounts levels lates n)
     (omega (arith, c.loop-more-test.false, c.loop-more.auto.more-end)) c.loop-more.invariant)

@@ -2,11 +2,12 @@ use Rattle.std.proofs.Common.{subst, ◌∷◌, []}
 use Rattle.label_bag.specs.Bags.{Gathers}
 use Rattle.fare_price.specs.declared.ways.Way.{Way}
 use Rattle.fare_price.specs.Ways.{is_as_good, way_by}
-use Rattle.fare_price.proofs.GatherLaws.{gathers_none, gathers_map, gathers_map-all}
+use Rattle.label_bag.proofs.BagLaws.{gathers-none}
+use Rattle.fare_price.proofs.GatherLaws.{gathers_map, gathers_map-all}
 use Rattle.fare_price.proofs.ways.Ways.offer_moves.Goals as goal
 
 pub loop-step-init : goal.loop-step-init
-loop-step-init c = gathers_none is_as_good _
+loop-step-init c = gathers-none is_as_good _
 
 pub loop-step-preserved : goal.loop-step-preserved
 loop-step-preserved c =

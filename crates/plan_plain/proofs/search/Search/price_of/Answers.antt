@@ -10,8 +10,8 @@ pub returns : goal.returns
 returns c =
     let path = c.args.path.now in
     IfOk-weaker c.price.result _ _
-    (λ priced least. cheapest_of_legs c.args.self.now.feed path.rides path.legs c.args.self.now.query.rider priced c.requires.legs least)
-    (subst (λ (t : FareTerms). IfOk c.price.result (IsLeastOrNone t.feed path.legs t.rider)) c.requires.terms c.price.ensures)
+    (λ priced least. cheapest_of_legs c.args.self.now.feed path.rides path.legs c.args.self.now.query.buyer priced c.requires.legs least)
+    (subst (λ (t : FareTerms). IfOk c.price.result (IsLeastOrNone t.feed path.legs t.buyer)) c.requires.terms c.price.ensures)
 
 pub price-requires : goal.price-requires
 price-requires c =

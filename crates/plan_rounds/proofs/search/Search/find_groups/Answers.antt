@@ -33,15 +33,15 @@ loop-k-preserved c =
     let lt : k < length kinds = omega (arith, many, c.loop-k-test.true) in
     let leg = leg_facts me.feed caught.facts in
     let kind = c.requires.kinds.fit k caught (slice_index_or kinds k 0) (slice_get-get_or rides k none c.loop-k-test.true) (slice_get-get_or kinds k 0 lt) in
-    let enough = subst (λ (t : FareTerms). AreEnough t.feed t.rider leg c.options.result.now) c.requires.fares (c.options.ensures leg kind) in
+    let enough = subst (λ (t : FareTerms). AreEnough t.feed t.buyer leg c.options.result.now) c.requires.fares (c.options.ensures leg kind) in
     record {
-      groups = first_more (IsGrouped me.feed me.query.rider old) (IsGrouped me.feed me.query.rider new) rides k none was.groups
-          (grouped_more me.feed me.query.rider old new c.in_ok-add_groups.ensures.still)
-          (grouped_by me.feed me.query.rider new caught c.options.result.now enough c.in_ok-add_groups.ensures.there);
+      groups = first_more (IsGrouped me.feed me.query.buyer old) (IsGrouped me.feed me.query.buyer new) rides k none was.groups
+          (grouped_more me.feed me.query.buyer old new c.in_ok-add_groups.ensures.still)
+          (grouped_by me.feed me.query.buyer new caught c.options.result.now enough c.in_ok-add_groups.ensures.there);
       labels = ap (λ labels. labels.items) c.in_ok-add_groups.ensures.labels ∙ was.labels;
     }
 
 pub returns-clause-groups : goal.returns-clause-groups
 returns-clause-groups c =
-    first_contained (IsGrouped c.args.self.now.feed c.args.self.now.query.rider c.loop-k.settled.groups.items) c.args.rides.now
+    first_contained (IsGrouped c.args.self.now.feed c.args.self.now.query.buyer c.loop-k.settled.groups.items) c.args.rides.now
     c.args.rides.now c.loop-k.k refl c.loop-k-test.false c.loop-k.invariant.groups

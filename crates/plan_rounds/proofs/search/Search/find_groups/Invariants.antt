@@ -6,6 +6,6 @@ use Rattle.plan_rounds.proofs.search.Search.find_groups.Given as goal
 
 abbrev pub invariant-loop-k : goal.invariant-loop-k
 invariant-loop-k l = record {
-  groups : AreFirst (IsGrouped l.self.feed l.self.query.rider l.settled.groups.items) l.rides l.k;
+  groups : AreFirst (IsGrouped l.self.feed l.self.query.buyer l.settled.groups.items) l.rides l.k;
   labels : l.settled.labels.items ≡ [];
 }

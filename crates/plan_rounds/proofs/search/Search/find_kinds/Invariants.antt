@@ -1,5 +1,6 @@
 use Rattle.std.proofs.Common.{◌≡◌, length}
-use Rattle.plan_rounds.specs.Legs.{FitKinds, StayKnown}
+use Rattle.ride_kinds.specs.RideKinds.{StayKnown}
+use Rattle.plan_rounds.specs.Legs.{FitKinds}
 use Rattle.plan_rounds.specs.Moves.{HasFares}
 use Rattle.plan_rounds.proofs.search.Search.find_kinds.Given as goal
 

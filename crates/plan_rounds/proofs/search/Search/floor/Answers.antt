@@ -6,5 +6,5 @@ use Rattle.plan_rounds.proofs.search.Search.floor.Goals as goal
 
 pub returns : goal.returns
 returns c =
-    c.floor.ensures ∙ ap (λ (t : FareTerms). fare_floor t.feed t.rider) c.self.invariant.0
-    ∙ ap (λ (a : Searched). fare_floor a.feed a.query.rider) c.self.view_is
+    c.floor.ensures ∙ ap (λ (t : FareTerms). fare_floor t.feed t.buyer) c.self.invariant.0
+    ∙ ap (λ (a : Searched). fare_floor a.feed a.query.buyer) c.self.view_is

@@ -140,7 +140,7 @@ returns-clause-settled c =
     let groups = kept.settled.groups.items in
     let labels = kept.settled.labels.items in
     let from = subst (λ (y : Label). IsReachedFrom round.positions.now (stand_of_label y) reached) (sym same) marked.from in
-    let of_rides = subst (λ (rs : List CaughtRide). AreGroupsOf me.feed me.query.rider rs groups) (sym c.rides.ensures)
+    let of_rides = subst (λ (rs : List CaughtRide). AreGroupsOf me.feed me.query.buyer rs groups) (sym c.rides.ensures)
     c.in_ok-keep_legs.ensures.groups.groups in
     let holds = subst (HoldsFrom round.positions.now (cutoff_of c.args.cutoffs.latest) reached) (sym c.rides.ensures) c.in_ok-keep_legs.ensures.holds in
     let tried = subst (λ (rs : List CaughtRide). All (IsTried me finals count rs old) labels) (sym c.rides.ensures)
@@ -157,7 +157,7 @@ returns-clause-settled c =
     on_ok_weaker c.add.result
     (λ adds. record {
       groups = record {
-        groups = subst (AreGroupsOf me.feed me.query.rider kept.rides.rides) (sym (ap (λ list. list.items) c.add.ensures.groups))
+        groups = subst (AreGroupsOf me.feed me.query.buyer kept.rides.rides) (sym (ap (λ list. list.items) c.add.ensures.groups))
             c.in_ok-keep_legs.ensures.groups.groups;
         changes = subst (λ (gs : List (Option LegGroupId)). AreLastChanges me.feed gs c.add.new.self.changes)
             (sym (ap (λ list. list.items) c.add.ensures.groups))

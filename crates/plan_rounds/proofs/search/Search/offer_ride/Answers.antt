@@ -45,7 +45,7 @@ offer_move-requires-clause-pays c =
     let lt : c.loop-k.k < length moves.items = omega (arith, c.loop-k-test.true, c.len-k-end.ensures, moves.ok.0) in
     let at = slice_get_read moves.items (length moves.items) c.loop-k.k c.index-taken.result.now refl lt
     (c.index-taken.ensures ∙ ap (λ ms. slice_index_or ms.items c.loop-k.k c.index-taken.result.now) c.loop-k.invariant.moves) in
-    All-slice_get (λ (m : Move). move_after feed query.rider label.state label.held.0 (leg_facts feed c.args.caught.now.facts) m ≡ Some m)
+    All-slice_get (λ (m : Move). move_after feed query.buyer label.state label.held.0 (leg_facts feed c.args.caught.now.facts) m ≡ Some m)
     moves.items c.loop-k.k c.index-taken.result.now at c.in_ok-find_moves.ensures.enough.right
 
 pub loop-k-init : goal.loop-k-init

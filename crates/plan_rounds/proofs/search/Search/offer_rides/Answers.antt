@@ -40,7 +40,7 @@ offer_ride-requires-clause-options c =
     let lt : k < length kinds = omega (arith, many, c.loop-k-test.true) in
     let leg = leg_facts me.feed caught.facts in
     let kind = c.requires.kinds.fit k caught (slice_index_or kinds k 0) (slice_get-get_or rides k none c.loop-k-test.true) (slice_get-get_or kinds k 0 lt) in
-    subst (λ (t : FareTerms). AreEnough t.feed t.rider leg c.options-options.result.now) c.requires.fares (c.options-options.ensures leg kind)
+    subst (λ (t : FareTerms). AreEnough t.feed t.buyer leg c.options-options.result.now) c.requires.fares (c.options-options.ensures leg kind)
 
 pub offer_ride-requires-clause-ended : goal.offer_ride-requires-clause-ended
 offer_ride-requires-clause-ended c =

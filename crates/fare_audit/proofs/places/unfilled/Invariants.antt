@@ -1,5 +1,0 @@
-use Rattle.std.proofs.Common.{Contains, Some}
-use Rattle.fare_audit.proofs.places.unfilled.Given as goal
-
-abbrev pub invariant-loop : goal.invariant-loop
-invariant-loop g l = (item : g.row.T.Denot) → Contains l.places.items (Some item) → ⊥

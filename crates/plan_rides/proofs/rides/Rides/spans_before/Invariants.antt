@@ -1,9 +1,0 @@
-use Rattle.std.proofs.Common.{◌≡◌, length}
-use Rattle.plan_rides.specs.Spans.{AreSpansBefore}
-use Rattle.plan_rides.proofs.rides.Rides.spans_before.Given as goal
-
-abbrev pub invariant-loop-stop : goal.invariant-loop-stop
-invariant-loop-stop l = record {
-  are : AreSpansBefore l.timetable l.query l.spans l.boards l.stop l.new.items;
-  many : length l.new.items ≡ l.stop;
-}

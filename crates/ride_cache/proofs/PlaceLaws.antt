@@ -1,0 +1,31 @@
+-- Lists of places in which one is written.
+use Rattle.std.proofs.Common.{◌≡◌, sym, ◌∙◌, ap, ℕ, ◌<◌, ◌⊎◌, inl, inr, ⊎_elim, List, [], ◌∷◌, ◌++◌, length, get_or, set, Contains, arith}
+use Rattle.std.specs.Prelude.{Option, Some, None}
+use Rattle.std.proofs.lemmas.Bool.{cases_eq}
+use Rattle.std.proofs.lemmas.List.{get_or-set_other, get_or-set_same, length-set}
+use Rattle.std.proofs.lemmas.List.Elements.{Contains-push_cases}
+use Rattle.std.proofs.lemmas.Option.{none-some, same_Some}
+
+-- what stands in a list of which one place was written stood there, or is what was written
+contains_set : {X : Type 0} (xs : List X) (i : ℕ) (v x : X) → i < length xs → Contains (set xs i v) x → Contains xs x ⊎ (v ≡ x)
+contains_set xs i v x lt at =
+    let within = at.1 in
+    let long = length-set xs i v in
+    ⊎_elim
+    (λ (e : at.0 ≡ i). inr (sym (ap (λ n. get_or (set xs i v) n x) e ∙ get_or-set_same xs i v x lt) ∙ at.2))
+    (λ n. inl (at.0, omega (arith, within, long), sym (get_or-set_other xs i at.0 v x n) ∙ at.2))
+    (cases_eq at.0 i)
+
+-- so it is with items
+pub holds_set : {X : Type 0} (xs : List (Option X)) (i : ℕ) (v x : X) → i < length xs → Contains (set xs i (Some v)) (Some x) → Contains xs (Some x) ⊎ (v ≡ x)
+holds_set xs i v x lt at = ⊎_elim
+    (λ (old : Contains xs (Some x)). let r : Contains xs (Some x) ⊎ (v ≡ x) = inl old in r)
+    (λ (new : Some v ≡ Some x). let r : Contains xs (Some x) ⊎ (v ≡ x) = inr (same_Some _ _ new) in r)
+    (contains_set xs i (Some v) (Some x) lt at)
+
+-- with one empty place more there are no more items
+pub no_more : {X : Type 0} (xs : List (Option X)) → ((x : X) → Contains xs (Some x) → ⊥) → (x : X) → Contains (xs ++ None ∷ []) (Some x) → ⊥
+no_more xs before x at = ⊎_elim
+    (λ (old : Contains xs (Some x)). before x old)
+    (λ (new : None ≡ Some x). none-some x new)
+    (Contains-push_cases xs None (Some x) at)
