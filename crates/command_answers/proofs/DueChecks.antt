@@ -7,36 +7,35 @@ use Rattle.feed_files.specs.declared.names.FileName.TheVariants as file
 use Rattle.feed_files.specs.declared.faults.FeedFault.{FeedFault}
 use Rattle.feed_files.specs.declared.faults.FaultKind.TheVariants as kind
 use Rattle.feed_files.specs.HeldFiles.{HeldFile}
-use Rattle.feed_rows.specs.CommandWords.{role_at, value_at, fits_form}
-use Rattle.feed_rows.specs.Commands.{read_words}
+use Rattle.commands.specs.CommandWords.{role_at, value_at, fits_form}
 use Rattle.feed_rows.specs.FeedRows.{FeedRows}
 use Rattle.feed_rows.specs.GeneratedFeed.{generated}
-use Rattle.feed_rows.specs.Requests.{Request}
+use Rattle.commands.specs.Requests.{Request}
 use Rattle.feed_rows.specs.Numerals.{number_value}
 use Rattle.feed_rows.specs.TimeGrammar.{time_value}
 use Rattle.feed_rows.specs.RideWords.{ride_word}
-use Rattle.feed_rows.specs.Queries.{has_stop_id, has_trip_id, has_rider_id, is_default_rider}
-use Rattle.feed_rows.specs.PriceQueries.{named_ride}
+use Rattle.feed_rows.specs.RowsById.{has_stop_id, has_trip_id, has_rider_id, is_default_rider}
+use Rattle.commands.specs.PriceQueries.{named_ride}
 use Rattle.feed_rows.specs.ServiceDays.{is_active}
 use Rattle.feed_rows.specs.Calls.{call_at, calls_of}
 use Rattle.feed_rows.specs.Shifts.{shifts_of}
 use Rattle.feed_rows.specs.Rides.{is_ride}
-use Rattle.feed_rows.specs.declared.usage.UsageFault.TheVariants as usage
-use Rattle.feed_rows.specs.declared.usage.StopWord.TheVariants as stop_word
+use Rattle.commands.specs.declared.usage.UsageFault.TheVariants as usage
+use Rattle.commands.specs.declared.usage.StopWord.TheVariants as stop_word
 use Rattle.feed_faults.specs.FirstFault.{first_fault}
 use Rattle.feed_faults.specs.OnLiterals.{feeds_on_literals}
-use Rattle.plan_words.specs.Words.{read_command}
+use Rattle.commands.specs.Commands.{read_command}
 use Rattle.command_answers.specs.Due.{Task, task_of, task_over, due}
 use Rattle.command_answers.specs.declared.refusal.Refusal.TheVariants as refusal
 use Rattle.command_answers.proofs.SmallFolder.{files, rows, no_category, on_the_day, stay, bus}
 
 -- a byte put before the first word
-abbrev onto_first : ℕ → List (List ℕ) → List (List ℕ)
+abbrev pub onto_first : ℕ → List (List ℕ) → List (List ℕ)
 onto_first byte [] = (byte ∷ []) ∷ []
 onto_first byte (word ∷ words) = (byte ∷ word) ∷ words
 
 -- the words of a text that has one space between each two
-abbrev spaced : List ℕ → List (List ℕ)
+abbrev pub spaced : List ℕ → List (List ℕ)
 spaced [] = [] ∷ []
 spaced (byte ∷ bytes) = if byte == 32 then [] ∷ spaced bytes else onto_first byte (spaced bytes)
 
@@ -52,7 +51,7 @@ no_stops = record { kind = kind.MissingFile; file = file.Stops; row = 0; column 
 
 -- `check` is about the rows of the folder
 due_check : due files (codes "check" ∷ []) ≡ Ok (Task.Checks rows)
-unfolding read_command read_words role_at value_at fits_form feeds_on_literals
+unfolding read_command role_at value_at fits_form feeds_on_literals
     days_from_civil day_count days_of_years days_of_months
 due_check = refl
 
@@ -61,7 +60,7 @@ due_plans :
     map (λ text. due files (spaced text))
     (codes "plan A A 2025-06-02 08:00:00 --rides 0" ∷ codes "plan --stats A A 2025-06-02 8:00:00 --rides=0" ∷ [])
     ≡ Ok (Task.Plans rows stay false) ∷ Ok (Task.Plans rows stay true) ∷ []
-unfolding read_command read_words role_at value_at fits_form time_value number_value has_stop_id has_rider_id
+unfolding read_command role_at value_at fits_form time_value number_value has_stop_id has_rider_id
     is_default_rider feeds_on_literals days_from_civil day_count days_of_years days_of_months
 due_plans = refl
 
@@ -69,7 +68,7 @@ due_plans = refl
 due_price :
     due files (spaced (codes "price T1,2025-06-02,-,1,2"))
     ≡ Ok (Task.Prices rows (record { rides = bus ∷ []; buyer = no_category }))
-unfolding read_command read_words role_at value_at fits_form time_value number_value ride_word named_ride has_trip_id
+unfolding read_command role_at value_at fits_form time_value number_value ride_word named_ride has_trip_id
     has_rider_id is_default_rider is_ride is_active shifts_of calls_of call_at feeds_on_literals days_from_civil
     day_count days_of_years
     days_of_months
@@ -81,7 +80,7 @@ due_gen :
     ≡ task_over (generated 7 2) (first_fault (generated 7 2)) (Request.Gen (record { seed = 7; lines = 2 })))
     × (due broken (spaced (codes "gen 7 2"))
     ≡ task_over (generated 7 2) (first_fault (generated 7 2)) (Request.Gen (record { seed = 7; lines = 2 })))
-unfolding read_command read_words role_at value_at fits_form number_value
+unfolding read_command role_at value_at fits_form number_value
 due_gen = (refl, refl)
 
 -- two of the stops that it makes, beside the rows of the folder
@@ -117,7 +116,7 @@ refused_in_order :
     ∷ codes "check" ∷ [])
     ≡ Err (refusal.Usage usage.WrongWords) ∷ Err (refusal.Usage usage.BadTime) ∷ Err (refusal.Feed no_stops)
     ∷ Err (refusal.Feed no_stops) ∷ []
-unfolding read_command read_words role_at value_at fits_form time_value number_value feeds_on_literals
+unfolding read_command role_at value_at fits_form time_value number_value feeds_on_literals
     days_from_civil day_count days_of_years days_of_months
 refused_in_order = refl
 
@@ -127,7 +126,7 @@ refused_names :
     (codes "plan A X 2025-06-02 08:00:00" ∷ codes "price T9,2025-06-02,-,1,2" ∷ codes "price T1,2025-06-03,-,1,2" ∷ [])
     ≡ Err (refusal.Usage (usage.UnknownStop stop_word.To)) ∷ Err (refusal.Usage (usage.NoSuchRide 1))
     ∷ Err (refusal.Usage (usage.NoSuchRide 1)) ∷ []
-unfolding read_command read_words role_at value_at fits_form time_value number_value ride_word named_ride has_stop_id
+unfolding read_command role_at value_at fits_form time_value number_value ride_word named_ride has_stop_id
     has_trip_id has_rider_id is_default_rider is_ride is_active shifts_of calls_of call_at feeds_on_literals
     days_from_civil day_count days_of_years days_of_months
 refused_names = refl

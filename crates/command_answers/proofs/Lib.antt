@@ -3,7 +3,9 @@ pub mod WrittenLaws
 pub mod LegLaws
 pub mod NameLaws
 pub mod RideLaws
+pub mod RiderLaws
 pub mod SmallFolder
 pub mod DueChecks
 pub mod TaskChecks
+pub mod AuditChecks
 pub mod TextLaws

@@ -5,17 +5,17 @@ use Rattle.std.proofs.lemmas.List.{map-append, length-map, length_push}
 use Rattle.std.proofs.lemmas.List.Elements.{All-push}
 use Rattle.std.proofs.lemmas.Option.{slice_get_within, slice_get-get_or}
 use Rattle.feed_rows.specs.FeedRows.{FeedRows}
-use Rattle.feed_rows.specs.NumberedItems.{read_at}
-use Rattle.feed_rows.specs.PriceQueries.{named_ride, named_rides}
+use Rattle.commands.specs.NumberedItems.{read_at}
+use Rattle.commands.specs.PriceQueries.{named_ride, named_rides}
 use Rattle.feed_rows.specs.Rides.{ride_facts}
 use Rattle.feed_rows.specs.RideWords.{RideWord}
 use Rattle.feed_rows.specs.declared.journeys.Ride.{Ride}
-use Rattle.feed_rows.specs.declared.usage.UsageFault.TheVariants as usage
+use Rattle.commands.specs.declared.usage.UsageFault.TheVariants as usage
 use Rattle.plain_laws.specs.Plain.{collect_below, find_below}
 use Rattle.plain_laws.proofs.Laws.{find_below_hit, find_below_found, find_below_next, IsCollected, collect_below_tells, collect_below_more}
 use Rattle.feed_rows.specs.Journeys.{is_caught, catches_next}
 use Rattle.feed_rows.specs.StopLinks.{link}
-use Rattle.feed_rows.specs.PriceQueries.{first_missed}
+use Rattle.commands.specs.PriceQueries.{first_missed}
 use Rattle.command_answers.proofs.LegLaws.{facts_known}
 use Rattle.command_answers.specs.declared.ride_prices.rides.NamedRide.{NamedRide}
 use Rattle.command_answers.specs.NamedRides.{rides_of, AreKnown}

@@ -2,9 +2,9 @@
 use Rattle.std.proofs.Common.{◌≡◌, sym, subst, ℕ, List}
 use Rattle.std.specs.Prelude.{Ok}
 use Rattle.feed_rows.specs.FeedRows.{FeedRows}
-use Rattle.feed_rows.specs.PriceQueries.{PriceQuery, price_query_of}
-use Rattle.feed_rows.specs.Requests.{PriceRequest}
-use Rattle.feed_laws.proofs.PriceQueryLaws.{priced_rides_join}
+use Rattle.commands.specs.PriceQueries.{PriceQuery, price_query_of}
+use Rattle.commands.specs.Requests.{PriceRequest}
+use Rattle.commands.proofs.PriceQueryLaws.{priced_rides_join}
 use Rattle.command_answers.specs.Due.{Task, task_by, ArePriceLines, IsDue}
 use Rattle.command_answers.specs.declared.status.Status.{Status}
 use Rattle.command_answers.specs.declared.status.Status.TheVariants as status

@@ -29,13 +29,13 @@ use Rattle.feed_rows.specs.ParetoTriples.{at_most}
 use Rattle.feed_rows.specs.EntryText.{journey_line, travel_lines, leg_line, leg_lines, fare_lines, entry_lines, lines_of_entries}
 use Rattle.feed_rows.specs.MoneyText.{money_text}
 use Rattle.feed_rows.specs.GeneratedTexts.{triple_line}
-use Rattle.feed_rows.specs.CommandTexts.{stats_line}
+use Rattle.commands.specs.CommandTexts.{stats_line}
 use Rattle.feed_laws.proofs.StandLaws.{places_of_paid, one_of_paid}
 use Rattle.command_answers.specs.Due.{Task, DoTask}
 use Rattle.command_answers.proofs.SmallFolder.{rows, no_category, on_the_day, stay, bus}
 
 -- a text with `|` for each tab, as a line with its line feed
-abbrev tabbed : List ℕ → List ℕ
+abbrev pub tabbed : List ℕ → List ℕ
 tabbed [] = 10 ∷ []
 tabbed (byte ∷ bytes) = (if byte == 124 then 9 else byte) ∷ tabbed bytes
 

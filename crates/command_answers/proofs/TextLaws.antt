@@ -6,11 +6,12 @@ use Rattle.std.proofs.lemmas.List.Concat.{flat_map-cons}
 use Rattle.feed_rows.specs.declared.fares.Choice.{Choice}
 use Rattle.feed_rows.specs.declared.journeys.Query.{Query}
 use Rattle.feed_rows.specs.FeedRows.{FeedRows}
-use Rattle.feed_rows.specs.GeneratedFeed.{generated_plan}
-use Rattle.feed_rows.specs.GeneratedTexts.{IsGenText, gen_line, triple_line}
-use Rattle.feed_rows.specs.PriceQueries.{PriceQuery}
+use Rattle.commands.specs.GeneratedPlan.{generated_plan}
+use Rattle.feed_rows.specs.GeneratedTexts.{gen_line, triple_line}
+use Rattle.commands.specs.GeneratedPlan.{IsGenText}
+use Rattle.commands.specs.PriceQueries.{PriceQuery}
 use Rattle.feed_rows.specs.PriceTexts.{IsPriceText, price_text, uncovered_text}
-use Rattle.feed_rows.specs.Queries.{query_of}
+use Rattle.commands.specs.Queries.{query_of}
 use Rattle.ticket_explain.specs.CommandLines.{price_lines}
 use Rattle.command_answers.specs.Due.{DoTask, Task}
 

@@ -4,14 +4,15 @@ use Rattle.std.specs.Prelude.{◌≡◌, ◌⊎◌, Bool, true, false, List, [],
 use Rattle.feed_rows.specs.FeedRows.{FeedRows}
 use Rattle.feed_files.specs.HeldFiles.{HeldFile}
 use Rattle.feed_rows.specs.ClosedTable.{IsClosedTable}
-use Rattle.feed_rows.specs.CommandTexts.{usage_line, refused_line, check_text, stats_line}
+use Rattle.commands.specs.CommandTexts.{usage_line, refused_line, check_text, stats_line}
 use Rattle.feed_rows.specs.EntryText.{lines_of_entries}
 use Rattle.feed_rows.specs.JourneyEntries.{IsExactAnswer, CoversOffers, IsOffered}
 use Rattle.feed_rows.specs.ParetoTriples.{at_most}
-use Rattle.feed_rows.specs.Queries.{query_of}
-use Rattle.feed_rows.specs.PriceQueries.{PriceQuery, price_query_of}
+use Rattle.commands.specs.Queries.{chosen_buyer, query_of}
+use Rattle.commands.specs.PriceQueries.{PriceQuery, price_query_of}
 use Rattle.feed_rows.specs.PriceTexts.{AreJoinedRides, IsLeastPrice, IsUncovered}
-use Rattle.feed_rows.specs.GeneratedFeed.{generated, generated_plan}
+use Rattle.feed_rows.specs.GeneratedFeed.{generated}
+use Rattle.commands.specs.GeneratedPlan.{generated_plan}
 use Rattle.feed_rows.specs.GeneratedTexts.{AreMinimalTriples}
 use Rattle.feed_rows.specs.RoundTables.{RoundTable, entries_of}
 use Rattle.feed_rows.specs.SoundTable.{IsSoundTable}
@@ -19,29 +20,31 @@ use Rattle.feed_rows.specs.declared.journeys.Buyer.{Buyer}
 use Rattle.feed_rows.specs.declared.journeys.Ride.{Ride}
 use Rattle.feed_rows.specs.declared.fares.Choice.{Choice}
 use Rattle.feed_rows.specs.declared.fares.Triple.{Triple}
-use Rattle.ticket_explain.specs.CommandLines.{price_lines, uncovered_lines, gen_lines}
-use Rattle.feed_rows.specs.Requests.{Request}
+use Rattle.ticket_explain.specs.CommandLines.{price_lines, uncovered_lines, audit_lines, gen_lines}
+use Rattle.feed_rows.specs.FareGaps.{idle_rules, uncovered_pairs}
+use Rattle.commands.specs.Requests.{Question, Request}
 use Rattle.feed_files.specs.declared.names.FileName.{FileName}
 use Rattle.feed_rows.specs.declared.journeys.Query.{Query}
 use Rattle.feed_rows.specs.declared.fares.Entry.{Entry}
 use Rattle.feed_files.specs.declared.faults.FeedFault.{FeedFault}
-use Rattle.feed_rows.specs.declared.usage.UsageFault.{UsageFault}
+use Rattle.commands.specs.declared.usage.UsageFault.{UsageFault}
 use Rattle.feed_faults.specs.AcceptedFeed.{feed_of}
 use Rattle.folder_io.specs.FolderCalls.{FolderState}
 use Rattle.folder_io.specs.FileReading.{Gives}
 use Rattle.feed_faults.specs.FirstFault.{first_fault}
-use Rattle.plan_words.specs.Words.{read_command}
+use Rattle.commands.specs.Commands.{read_command}
 use Rattle.command_answers.specs.declared.refusal.Refusal.{Refusal}
 use Rattle.command_answers.specs.declared.refusal.Refusal.TheVariants as refusal
 use Rattle.command_answers.specs.declared.status.Status.{Status}
 use Rattle.command_answers.specs.declared.status.Status.TheVariants as status
 
 -- what is left to do where words, files and names have no fault; of a plan also whether a last line tells the size of
--- its table
+-- its table, and of an audit the buyer, the first and the last service day
 pub data Task : Type 0 where
   Checks : FeedRows → Task
   Plans : FeedRows → Query → Bool → Task
   Prices : FeedRows → PriceQuery → Task
+  Audits : FeedRows → Buyer → ℤ → ℤ → Task
   Generates : FeedRows → Query → Task
 
 -- the task over what names stand for, or the fault of one of them
@@ -49,18 +52,21 @@ abbrev pub task_by : {X : Type 0} → (X → Task) → Result X UsageFault → R
 task_by make (Ok query) = Ok (make query)
 task_by make (Err fault) = Err (refusal.Usage fault)
 
+-- what is asked about a feed that has no fault
+abbrev pub task_asked : FeedRows → Question → Result Task Refusal
+task_asked feed (Question.Plan request) = task_by (λ query. Task.Plans feed query request.stats) (query_of feed request)
+task_asked feed (Question.Price request) = task_by (Task.Prices feed) (price_query_of feed request)
+task_asked feed Question.Check = Ok (Task.Checks feed)
+task_asked feed (Question.Audit request) = task_by (λ buyer. Task.Audits feed buyer request.first request.last) (chosen_buyer feed request.rider)
+
 -- what is asked for over a feed that has no fault
 abbrev pub task_of : FeedRows → Request → Result Task Refusal
-task_of feed (Request.Plan request) = task_by (λ query. Task.Plans feed query request.stats) (query_of feed request)
-task_of feed (Request.Price request) = task_by (Task.Prices feed) (price_query_of feed request)
-task_of feed Request.Check = Ok (Task.Checks feed)
+task_of feed (Request.Asks question) = task_asked feed question
 task_of feed (Request.Gen request) = task_by (Task.Generates feed) (query_of feed (generated_plan request.lines))
 
 -- the files that are asked about: those of the folder, but for the command that makes its own
 abbrev pub files_for : (FileName → HeldFile) → Request → FileName → HeldFile
-files_for files (Request.Plan request) = files
-files_for files (Request.Price request) = files
-files_for files Request.Check = files
+files_for files (Request.Asks question) = files
 files_for files (Request.Gen request) = generated request.seed request.lines
 
 -- what is asked for over files with this first fault
@@ -114,12 +120,15 @@ pub record AreGenLines (feed : FeedRows) (query : Query) (lines : List (List ℕ
   pub are_lines : lines ≡ gen_lines feed triples
 
 -- the lines do the task: those of a check tell how many rows the main files of the feed have; the rides that are priced are
--- rides of the feed, each caught from the one before
+-- rides of the feed, each caught from the one before; those of an audit tell exactly the pairs of stops between which a ride
+-- can't be paid, and the leg rules that no ride selects
 abbrev pub DoTask : Task → List (List ℕ) → Type 0
 DoTask (Task.Checks feed) lines = lines ≡ check_text feed ∷ []
 DoTask (Task.Plans feed query false) lines = ArePlanLines feed query lines
 DoTask (Task.Plans feed query true) lines = AreTableLines feed query lines
 DoTask (Task.Prices feed query) lines = AreJoinedRides feed query.rides × ArePriceLines feed query.rides query.buyer lines
+DoTask (Task.Audits feed buyer first last) lines =
+    lines ≡ audit_lines feed (uncovered_pairs feed buyer first last) (idle_rules feed first last)
 DoTask (Task.Generates feed query) lines = AreGenLines feed query lines
 
 -- the answer and the line of a refusal

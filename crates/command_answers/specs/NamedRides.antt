@@ -1,9 +1,9 @@
 -- The rides and the buyer that words name over a feed, as contracts see them.
 use Rattle.std.specs.Prelude.{◌≡◌, List, map, All, Some, Result, Err}
 use Rattle.feed_rows.specs.declared.journeys.Ride.{Ride}
-use Rattle.feed_rows.specs.declared.usage.UsageFault.{UsageFault}
+use Rattle.commands.specs.declared.usage.UsageFault.{UsageFault}
 use Rattle.feed_rows.specs.FeedRows.{FeedRows}
-use Rattle.feed_rows.specs.PriceQueries.{PriceQuery as NamedQuery}
+use Rattle.commands.specs.PriceQueries.{PriceQuery as NamedQuery}
 use Rattle.feed_rows.specs.Rides.{ride_facts}
 use Rattle.command_answers.specs.declared.ride_prices.rides.NamedRide.{NamedRide}
 use Rattle.command_answers.specs.declared.ride_prices.query.PriceQuery.{PriceQuery}

@@ -1,24 +1,14 @@
 //! The lines that are written.
 ghost use Rattle.std.specs.Prelude.{◌≡◌, IfOk, OnOk, string_bytes};
-ghost use Rattle.feed_rows.specs.CommandTexts.{usage_line, refused_line, place_text, check_text, stats_line};
-ghost use Rattle.feed_rows.specs.UsageFaults.{stop_word_text};
+ghost use Rattle.commands.specs.CommandTexts.{usage_line, refused_line, place_text, check_text, stats_line};
 ghost use Rattle.command_answers.specs.Written.{WritesLines};
 
+use commands::{CommandOption, UsageFault, WordKind};
 use feed_files::{ColumnName, FeedFault};
-use feed_rows::{Feed, StopWord, UsageFault};
+use feed_rows::Feed;
 use folder_io::{Sink, Wrote};
 use std::alloc::{AllocError, Global};
 use ticket_explain::{Field, Line, Text};
-
-// The word that names a stop, as it is printed.
-fn stop_word(word: StopWord) -> &'static str
-    ensures { result.now ≡ stop_word_text word }
-{
-    match word {
-        StopWord::From => "FROM",
-        StopWord::To => "TO",
-    }
-}
 
 /// The line of a usage fault.
 pub fn usage_line_of(alloc: Global, fault: UsageFault) -> Result<String, AllocError>
@@ -27,14 +17,18 @@ pub fn usage_line_of(alloc: Global, fault: UsageFault) -> Result<String, AllocEr
     let name = fault.text();
     let argument = match fault {
         UsageFault::WrongWords => "-",
-        UsageFault::BadDate => "DATE",
-        UsageFault::BadTime => "TIME",
-        UsageFault::BadRides => "--rides",
-        UsageFault::BadWindow => "--within",
-        UsageFault::BadSeed => "SEED",
-        UsageFault::BadLines => "LINES",
-        UsageFault::UnknownStop(word) | UsageFault::WrongStopKind(word) => stop_word(word),
-        UsageFault::UnknownRider | UsageFault::RiderNeeded => "--rider",
+        UsageFault::BadDate => WordKind::Date.text(),
+        UsageFault::BadTime => WordKind::Time.text(),
+        UsageFault::BadRides => CommandOption::Rides.text(),
+        UsageFault::BadWindow => CommandOption::Within.text(),
+        UsageFault::BadFirst => WordKind::First.text(),
+        UsageFault::BadLast => WordKind::Last.text(),
+        UsageFault::BadSeed => WordKind::Seed.text(),
+        UsageFault::BadLines => WordKind::Lines.text(),
+        UsageFault::UnknownStop(word) | UsageFault::WrongStopKind(word) => {
+            WordKind::Stop(word).text()
+        }
+        UsageFault::UnknownRider | UsageFault::RiderNeeded => CommandOption::Rider.text(),
         UsageFault::BadRide(k) | UsageFault::NoSuchRide(k) | UsageFault::NoChange(k) => {
             return format!(in alloc; "usage\t{name}\t{k}\n");
         }

@@ -1,7 +1,7 @@
 //! The answer of a price.
 ghost use Rattle.std.specs.Prelude.{◌≤◌, length, IfOk};
 ghost use Rattle.feed_rows.specs.Limits.{most_rides};
-ghost use Rattle.feed_rows.specs.PriceQueries.{price_query_of};
+ghost use Rattle.commands.specs.PriceQueries.{price_query_of};
 ghost use Rattle.command_answers.specs.Due.{Task, task_by, ArePriceLines};
 ghost use Rattle.command_answers.specs.Outcomes.{IsOutcome};
 ghost use Rattle.command_answers.specs.NamedRides.{AreKnown, rides_of};

@@ -1,12 +1,13 @@
 //! The query of a plan over a feed.
 ghost use Rattle.std.specs.Prelude.{◌≡◌, ◌||◌, IfOk};
 ghost use Rattle.feed_rows.specs.StopLinks.{is_platform, is_station};
-ghost use Rattle.feed_rows.specs.Queries.{named_stop, query_of};
+ghost use Rattle.commands.specs.Queries.{named_stop, query_of};
 ghost use Rattle.plan_rides.specs.InTime.{IsUsualQuery};
 ghost use Rattle.plan_words.specs.Request.{request_of, IsUsualPlan};
 
-use fare_products::chosen_rider;
-use feed_rows::{Buyer, Feed, PLATFORM, Query, STATION, StopWord, UsageFault};
+use crate::riders::chosen_buyer;
+use commands::{StopWord, UsageFault};
+use feed_rows::{Feed, PLATFORM, Query, STATION};
 use feed_timetable::Timetable;
 use plan_words::PlanWords;
 use transit_base::StopId;
@@ -43,13 +44,13 @@ pub fn query_of(timetable: &Timetable, plan: &PlanWords) -> Result<Query, UsageF
 {
     let from = named_stop(timetable, StopWord::From, plan.from)?;
     let to = named_stop(timetable, StopWord::To, plan.to)?;
-    let rider = chosen_rider(timetable.feed(), plan.rider)?;
+    let buyer = chosen_buyer(timetable.feed(), plan.rider)?;
     Ok(Query {
         from,
         to,
         departure: plan.departure,
         rides: plan.rides,
         window: plan.window,
-        buyer: Buyer { rider },
+        buyer,
     })
 }

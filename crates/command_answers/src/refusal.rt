@@ -4,8 +4,8 @@ ghost use Rattle.command_answers.specs.Due.{refusal_answer, refusal_line};
 
 use crate::lines::{refused_line_of, usage_line_of};
 use crate::status::Status;
+use commands::UsageFault;
 use feed_files::FeedFault;
-use feed_rows::UsageFault;
 use std::alloc::{AllocError, Global};
 
 /// What refuses a command.

@@ -1,6 +1,6 @@
 //! What the program answers.
+use commands::UsageFault;
 use feed_files::FeedFault;
-use feed_rows::UsageFault;
 
 /// The answer of a command.
 #[derive(Clone, Copy, PartialEq, Eq)]

@@ -1,3 +1,4 @@
 pub mod AreaRows
 pub mod AreaTables
 pub mod BuiltAreas
+pub mod LikeStops

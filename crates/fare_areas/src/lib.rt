@@ -9,6 +9,9 @@ ghost use Rattle.item_groups.specs.Groups.{groups_below};
 ghost use Rattle.fare_areas.specs.AreaRows.{by_stop, areas_at, DoRise, area_of, ordered, own_table, source_in, source_at, route_network};
 ghost use Rattle.fare_areas.specs.BuiltAreas.{AreAreasOf};
 
+mod likes;
+
+pub use crate::likes::like_stops;
 use feed_rows::{Feed, PLATFORM, RouteRow, STATION, StopAreaRow, StopRow};
 use item_groups::{Grouped, Groups};
 use std::alloc::{AllocError, Global};

@@ -28,7 +28,7 @@ use Rattle.fare_audit.specs.declared.found.Found.{Found}
 use Rattle.fare_audit.specs.declared.found.Walk.{Walk}
 use Rattle.ride_cache.specs.Kept.{Holds, HoldsFor}
 use Rattle.fare_timeframes.specs.Cuts.{AreLike}
-use Rattle.fare_audit.specs.Found.{AuditOf, AreNoted, CoversEnds, CoversPair, GrowsTo, HasLike, IsAudited, IsCovered, IsFound, IsGap, IsRight, IsUsed, MarksAll, StandsFor, is_marked, opens_rule, selects}
+use Rattle.fare_audit.specs.Found.{AuditOf, AreNoted, CoversEnds, CoversPair, GrowsTo, HasLike, HasWalk, IsAudited, IsCovered, IsFound, IsGap, IsRight, IsUsed, IsWalk, MarksAll, StandsFor, is_marked, opens_rule, selects}
 use Rattle.fare_audit.proofs.LikeLaws.{option_like, selects_like}
 
 -- a product has a least open row where it has an open one
@@ -115,20 +115,20 @@ pub ends_later : (audit : AuditOf) (old new : Found) → GrowsTo old new → (ne
     CoversEnds audit old network ends → CoversEnds audit new network ends
 ends_later audit old new grows network ends covers from to lt = pair_later audit old new grows network ends from to (covers from to lt)
 
-still_walked : (audit : AuditOf) (old new : Found) → GrowsTo old new → new.walked ≡ old.walked →
-    CoversEnds audit old old.walked.network old.walked.ends.items → CoversEnds audit new new.walked.network new.walked.ends.items
-still_walked audit old new grows same covers =
-    let P : Walk → Type 0 = λ w. CoversEnds audit new w.network w.ends.items in
-    subst P (sym same) (ends_later audit old new grows old.walked.network old.walked.ends.items covers)
+-- the runs that are kept
+abbrev AreWalked : AuditOf → Found → Type 0
+AreWalked audit found = (walk : Walk) → Contains found.walks.items walk → CoversEnds audit found walk.network walk.ends.items
+
+still_walked : (audit : AuditOf) (old new : Found) → GrowsTo old new → new.walks ≡ old.walks → AreWalked audit old → AreWalked audit new
+still_walked audit old new grows same covers = λ walk at. ends_later audit old new grows walk.network walk.ends.items (covers walk (rw same at at))
 
 pub still_noted : (old new : Found) → AreNoted old → new.noted ≡ old.noted → ((p : Pair) → Contains old.gaps.items p → Contains new.gaps.items p) → AreNoted new
 still_noted old new were noted kept = λ p at. kept p (were p (rw noted at at))
 
--- what was looked at last is covered
-pub walked_covers : (audit : AuditOf) (found : Found) (network : Option NetworkId) (ends : List End) → IsFound audit found →
-    (found.walked.network ≡ network) × (found.walked.ends.items ≡ ends) → CoversEnds audit found network ends
-walked_covers audit found network ends is these =
-    subst (λ (n : Option NetworkId). CoversEnds audit found n ends) these.0 (subst (CoversEnds audit found found.walked.network) these.1 is.walked)
+-- what was looked at is covered
+pub walked_covers : (audit : AuditOf) (found : Found) (network : Option NetworkId) (ends : List End) → IsFound audit found → HasWalk found network ends → CoversEnds audit found network ends
+walked_covers audit found network ends is kept =
+    subst (λ (n : Option NetworkId). CoversEnds audit found n ends) kept.2.0 (subst (CoversEnds audit found kept.0.network) kept.2.1 (is.walked kept.0 kept.1))
 
 pub grows_same : (old new : Found) → new.used ≡ old.used → new.gaps ≡ old.gaps → GrowsTo old new
 grows_same old new used gaps = record { used = λ i at. rw used at; gaps = λ pair at. rw gaps at }
@@ -175,7 +175,7 @@ marks_selected feed ride old new many marks i e =
 -- what was found stays true with the judgement of one ride more
 pub judged_found : (audit : AuditOf) (old new : Found) (ride : RideFacts) (has : Bool) → IsFound audit old → HasLike audit ride →
     MarksAll (selected_rules audit.feed (leg_facts audit.feed ride)) old.used.items new.used.items →
-    has ≡ has_option audit.feed audit.buyer (leg_facts audit.feed ride) → new.gaps ≡ old.gaps → new.noted ≡ old.noted → new.walked ≡ old.walked →
+    has ≡ has_option audit.feed audit.buyer (leg_facts audit.feed ride) → new.gaps ≡ old.gaps → new.noted ≡ old.noted → new.walks ≡ old.walks →
     ((other : RideFacts) (kept : Bool) → HoldsFor new.verdicts other kept → HoldsFor old.verdicts other kept ⊎ ((ride ≡ other) × (has ≡ kept))) →
     IsFound audit new
 judged_found audit old new ride has were like marks value gaps noted walked verdicts =
@@ -205,7 +205,7 @@ gap_here audit network from to facts is off =
     record { facts = facts; audited = is.audited; from = sym is.from_stop; to = sym is.to_stop; unpaid = sym (option_like audit.feed _ facts is.like audit.buyer) ∙ off }
 
 -- what was found stays true with one gap more
-pub noted_found : (audit : AuditOf) (old new : Found) (pair : Pair) → IsFound audit old → new.used ≡ old.used → new.verdicts ≡ old.verdicts → new.walked ≡ old.walked → AreNoted new →
+pub noted_found : (audit : AuditOf) (old new : Found) (pair : Pair) → IsFound audit old → new.used ≡ old.used → new.verdicts ≡ old.verdicts → new.walks ≡ old.walks → AreNoted new →
     ((p : Pair) → Contains old.gaps.items p → Contains new.gaps.items p) → ((p : Pair) → Contains new.gaps.items p → Contains old.gaps.items p ⊎ (p ≡ pair)) → IsGap audit pair → IsFound audit new
 noted_found audit old new pair were used verdicts walked noted kept tells gap =
     record {
@@ -220,17 +220,20 @@ noted_found audit old new pair were used verdicts walked noted kept tells gap =
       walked = still_walked audit old new (record { used = λ i at. rw used at; gaps = kept }) walked were.walked;
     }
 
--- or with another run as the one that was looked at last
-pub walked_found : (audit : AuditOf) (old new : Found) → IsFound audit old → new.used ≡ old.used → new.gaps ≡ old.gaps → new.verdicts ≡ old.verdicts → new.noted ≡ old.noted →
-    CoversEnds audit old new.walked.network new.walked.ends.items → IsFound audit new
-walked_found audit old new were used gaps verdicts noted covers =
+-- or with one run more that was looked at
+pub walked_found : (audit : AuditOf) (old new : Found) (network : Option NetworkId) (ends : List End) → IsFound audit old → new.used ≡ old.used → new.gaps ≡ old.gaps → new.verdicts ≡ old.verdicts → new.noted ≡ old.noted →
+    ((walk : Walk) → Contains new.walks.items walk → Contains old.walks.items walk ⊎ IsWalk walk network ends) → CoversEnds audit old network ends → IsFound audit new
+walked_found audit old new network ends were used gaps verdicts noted walks covers =
     record {
       many = rw used were.many;
       used = λ i at. were.used i (rw used at at);
       gaps = λ p at. were.gaps p (rw gaps at at);
       noted = λ p at. rw gaps (were.noted p (rw noted at at));
       verdicts = λ ride has at. rw used (were.verdicts ride has (rw verdicts at at));
-      walked = ends_later audit old new (grows_same old new used gaps) new.walked.network new.walked.ends.items covers;
+      walked = λ walk at. ends_later audit old new (grows_same old new used gaps) walk.network walk.ends.items (⊎_elim
+          (λ (before : Contains old.walks.items walk). were.walked walk before)
+          (λ (here : IsWalk walk network ends). subst (λ (n : Option NetworkId). CoversEnds audit old n walk.ends.items) (sym here.0) (subst (CoversEnds audit old network) (sym here.1) covers))
+          (walks walk at));
     }
 
 abbrev two_of : StopId → StopId → Pair

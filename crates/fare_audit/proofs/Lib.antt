@@ -2,7 +2,6 @@ pub mod SignedLaws
 pub mod SetLaws
 pub mod DayLaws
 pub mod LikeLaws
-pub mod StopLaws
 pub mod FoundLaws
 pub mod GapLaws
 pub mod RunLaws

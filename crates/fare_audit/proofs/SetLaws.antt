@@ -10,6 +10,7 @@ use Rattle.std.proofs.lemmas.List.Elements.{Contains-append_left, Contains-push,
 use Rattle.std.proofs.lemmas.Option.{none-some, get_or_from_slice_get, slice_get-get_or, slice_get_past, slice_get_within}
 use Rattle.transit_base.specs.declared.numbers.RuleId.{RuleId}
 use Rattle.feed_rows.specs.declared.rows.TimeframeRow.{TimeframeRow}
+use Rattle.ride_cache.proofs.PlaceLaws.{written}
 use Rattle.plain_laws.specs.Plain.{at_and, filled_and}
 use Rattle.plain_laws.proofs.Laws.{no_item}
 use Rattle.fare_audit.specs.Found.{MarksAll, is_marked}
@@ -93,12 +94,6 @@ none_marked marks n i e at = false≢true (sym (ap (λ ms. get_or ms i false) e 
   where
     off : (n i : ℕ) → get_or (replicate n false) i false ≡ false
     off n i = ⊎_elim (λ (lt : i < n). get_or-replicate n i false false lt) (λ (past : n ≤ i). get_or_past (replicate n false) i (let long = length-replicate n false in omega (arith, past, long))) (cases_lt i n)
-
--- what is written over a whole list is what stands there
-pub written : {X : Type 0} (old new : List X) (n : ℕ) → length new ≡ length old → n ≡ length old → take n (new ++ drop (length new) old) ≡ new
-written old new n e m =
-    let gone = length-drop (length new) old in
-    rw (no_item (drop (length new) old) (omega (arith, gone, e)), append-nil new) (take_all n new (omega (arith, e, m)))
 
 -- marks that were written over a whole list of them
 pub marks_written : (rules : List RuleId) (old lent new : List Bool) (n : ℕ) → lent ≡ old → n ≡ length old → MarksAll rules lent new → MarksAll rules old (take n (new ++ drop (length new) old))

@@ -5,7 +5,6 @@ use Rattle.fare_products.specs.BuiltProducts.{AreProductsOf}
 use Rattle.fare_timeframes.specs.BuiltTimeframes.{AreTimeframesOf}
 use Rattle.fare_audit.specs.declared.judge.Audit.TheInside.{Inside}
 use Rattle.fare_audit.specs.Found.{AuditOf}
-use Rattle.fare_audit.specs.Likes.{AreLikeStops}
 
 -- the fields as one record
 abbrev pub audit_inside : Inside → AuditOf
@@ -19,4 +18,3 @@ pub record IsBuilt (s : Inside) : Type 0 where
   pub timeframes : AreTimeframesOf s.feed.now s.timeframes
   pub rules : AreLegRulesOf s.feed.now s.rules
   pub products : AreProductsOf s.feed.now s.products
-  pub likes : AreLikeStops s.feed.now s.likes.items

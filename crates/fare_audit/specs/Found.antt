@@ -19,6 +19,7 @@ use Rattle.fare_timeframes.specs.Cuts.{AreLike}
 use Rattle.ride_cache.specs.Kept.{Holds, HoldsFor}
 use Rattle.fare_audit.specs.declared.ends.End.{End}
 use Rattle.fare_audit.specs.declared.found.Found.{Found}
+use Rattle.fare_audit.specs.declared.found.Walk.{Walk}
 
 -- a feed, a buyer, the first of the service days that are looked at, and how many there are
 pub record AuditOf : Type 0 where
@@ -109,6 +110,14 @@ CoversPair audit found network ends from to =
 abbrev pub CoversEnds : AuditOf → Found → Option NetworkId → List End → Type 0
 CoversEnds audit found network ends = (from to : ℕ) → from < to → CoversPair audit found network ends from to
 
+-- the run has this network and these ends
+abbrev pub IsWalk : Walk → Option NetworkId → List End → Type 0
+IsWalk walk network ends = (walk.network ≡ network) × (walk.ends.items ≡ ends)
+
+-- such a run was looked at, and is kept
+abbrev pub HasWalk : Found → Option NetworkId → List End → Type 0
+HasWalk found network ends = (walk : Walk) × Contains found.walks.items walk × IsWalk walk network ends
+
 -- what was found is true
 pub record IsFound (audit : AuditOf) (found : Found) : Type 0 where
   pub many : length found.used.items ≡ length audit.feed.leg_rules
@@ -116,7 +125,7 @@ pub record IsFound (audit : AuditOf) (found : Found) : Type 0 where
   pub gaps : (pair : Pair) → Contains found.gaps.items pair → IsGap audit pair
   pub noted : AreNoted found
   pub verdicts : (ride : RideFacts) (has : Bool) → HoldsFor found.verdicts ride has → IsRight audit found.used.items ride has
-  pub walked : CoversEnds audit found found.walked.network found.walked.ends.items
+  pub walked : (walk : Walk) → Contains found.walks.items walk → CoversEnds audit found walk.network walk.ends.items
 
 -- nothing that was found is lost
 pub record GrowsTo (old new : Found) : Type 0 where

@@ -1,5 +1,4 @@
 pub mod Reports
-pub mod Likes
 pub mod Days
 pub mod Found
 pub mod Runs

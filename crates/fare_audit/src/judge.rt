@@ -12,7 +12,6 @@ ghost use Rattle.fare_audit.specs.Found.{GrowsTo, HasLike, HasRide, IsCovered, I
 
 use crate::ends::End;
 use crate::found::Found;
-use crate::likes::like_stops;
 use fare_leg_rules::LegRules;
 use fare_products::Products;
 use fare_timeframes::Timeframes;
@@ -32,8 +31,6 @@ pub struct Audit<'f> {
     timeframes: Timeframes<'f>,
     rules: LegRules,
     products: Products,
-    /// Of each stop one with the same areas.
-    likes: Vec<StopId>,
 }
 
 // Written out, so that what holds one needn't look into it to let go of it.
@@ -47,7 +44,6 @@ impl<'f> Drop for Audit<'f> {
             timeframes: _,
             rules: _,
             products: _,
-            likes: _,
         } = self;
     }
 }
@@ -84,7 +80,6 @@ impl<'f> Audit<'f> {
         ensures { IfOk result (λ audit. audit ≡ record { feed = feed.now; buyer = buyer; first = first.0; count = count }) }
     {
         let _rows = &feed.trips;
-        let likes = like_stops(alloc, feed)?;
         let products = Products::build(alloc, feed)?;
         let rules = LegRules::build(alloc, feed)?;
         match Timeframes::build(alloc, feed, calendar) {
@@ -96,7 +91,6 @@ impl<'f> Audit<'f> {
                 timeframes,
                 rules,
                 products,
-                likes,
             }),
             Err(AllocError) => Err(AllocError),
         }
@@ -217,10 +211,7 @@ impl<'f> Audit<'f> {
     pub fn like_stop(&self, stop: StopId) -> StopId
         ensures { stop_areas self.now.feed result ≡ stop_areas self.now.feed stop }
     {
-        match self.likes.get(stop.0 as usize) {
-            Some(like) => *like,
-            None => stop,
-        }
+        self.timeframes.like_stop(stop)
     }
 
     /// A moment at which the same timeframe groups hold.

@@ -14,7 +14,6 @@ mod days;
 mod ends;
 mod found;
 mod judge;
-mod likes;
 mod pairs;
 mod report;
 mod walk;

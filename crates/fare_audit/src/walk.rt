@@ -148,7 +148,7 @@ impl<'f> Audit<'f> {
         }
     }
 
-    /// Adds the rides of a run, unless those of one that fare rules see alike were added just before.
+    /// Adds the rides of a run, unless those of one that fare rules see alike were added lately.
     fn add_run(
         &self,
         alloc: Global,
@@ -171,7 +171,7 @@ impl<'f> Audit<'f> {
                 self.add_rides_to(alloc, found, run, ends, to)?;
             }
         }
-        found.keep_walk(run.network, ends)?;
+        found.keep_walk(alloc, run.network, ends)?;
         Ok(())
     }
 

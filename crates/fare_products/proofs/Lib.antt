@@ -1,3 +1,2 @@
 pub mod OfferLaws
 pub mod CheapestLaws
-pub mod RiderLaws

@@ -1,5 +1,4 @@
-//! The fare products of a feed: which of their rows are open to a buyer, and the cheapest of these. The rider category that a query
-//! is for, and amounts as text.
+//! The fare products of a feed: which of their rows are open to a buyer, and the cheapest of these; amounts as text.
 #![tactic(auto)]
 
 ghost use Rattle.std.specs.Prelude.{◌≡◌, Option, option_map, IfOk, IfSome};
@@ -13,12 +12,10 @@ ghost use Rattle.fare_products.specs.BuiltProducts.{AreProductsOf, AreLeastRowsO
 
 mod money;
 mod offers;
-mod riders;
 
 pub use crate::money::MoneyText;
 use crate::money::money_text;
 use crate::offers::{Offer, grouped_offers, least_offer};
-pub use crate::riders::chosen_rider;
 use feed_rows::{Buyer, Feed, RowList};
 use item_groups::Groups;
 use std::alloc::{AllocError, Global};

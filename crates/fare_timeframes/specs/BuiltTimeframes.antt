@@ -4,6 +4,7 @@ use Rattle.std.specs.List.{list_any}
 use Rattle.std.specs.List.Sorted.{IsNonDecreasingBy}
 use Rattle.feed_calendar.specs.BuiltCalendar.{IsCalendarOf}
 use Rattle.fare_areas.specs.BuiltAreas.{AreAreasOf}
+use Rattle.fare_areas.specs.LikeStops.{AreLikeStops}
 use Rattle.feed_rows.specs.declared.rows.TimeframeRow.{TimeframeRow}
 use Rattle.feed_rows.specs.FeedRows.{FeedRows}
 use Rattle.fare_timeframes.specs.declared.Timeframes.{Timeframes}
@@ -15,6 +16,7 @@ use Rattle.fare_timeframes.specs.FrameDays.{IsDayOf}
 pub record AreTimeframesOf (feed : FeedRows) (timeframes : Timeframes) : Type 0 where
   pub calendar : IsCalendarOf feed timeframes.calendar.now
   pub areas : AreAreasOf feed timeframes.areas
+  pub likes : AreLikeStops feed timeframes.likes.items
   pub count : timeframes.count ≡ length feed.frame_names
   pub rises : (frame : ℕ) → IsNonDecreasingBy (λ (row : TimeframeRow). row.start) (rows_at timeframes.rows frame)
   pub has : (frame : ℕ) (test : TimeframeRow → Bool) → list_any test (rows_at timeframes.rows frame) ≡ list_any (λ row. (row.frame.0 == frame) && test row) feed.timeframes

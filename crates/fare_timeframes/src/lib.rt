@@ -6,7 +6,7 @@ ghost use Rattle.std.specs.List.{list_any};
 ghost use Rattle.std.specs.List.Sorted.{IsNonDecreasingBy};
 ghost use Rattle.feed_calendar.specs.BuiltCalendar.{IsCalendarOf};
 ghost use Rattle.feed_rows.specs.FeedRows.{FeedRows};
-ghost use Rattle.feed_rows.specs.Legs.{holds_at, frames_at, leg_facts};
+ghost use Rattle.feed_rows.specs.Legs.{holds_at, frames_at, leg_facts, stop_areas};
 ghost use Rattle.fare_areas.specs.AreaRows.{DoRise};
 ghost use Rattle.transit_base.specs.Moments.{civil_day};
 ghost use Rattle.fare_timeframes.specs.FrameRows.{by_frame, lasts_on, AreByStart};
@@ -20,12 +20,12 @@ mod days;
 
 use crate::cuts::{cuts_of, moment_by};
 use crate::days::{FrameDay, spans_on};
-use fare_areas::Areas;
+use fare_areas::{Areas, like_stops};
 use feed_calendar::Calendar;
 use feed_rows::{AreaList, Feed, FrameList, LegFacts, RideFacts, TimeframeRow};
 use item_groups::{Grouped, Groups};
 use std::alloc::{AllocError, Global};
-use transit_base::{AreaId, Day, FrameId, Moment};
+use transit_base::{AreaId, Day, FrameId, Moment, StopId};
 
 /// The timeframe groups of a feed, with its areas, by a calendar that is lent.
 ///
@@ -33,6 +33,8 @@ use transit_base::{AreaId, Day, FrameId, Moment};
 pub struct Timeframes<'c> {
     calendar: &'c Calendar,
     areas: Areas,
+    /// Of each stop one with the same areas.
+    likes: Vec<StopId>,
     /// How many timeframe groups there are.
     count: u32,
     /// The rows of each timeframe group, by start.
@@ -49,6 +51,7 @@ impl<'c> Drop for Timeframes<'c> {
         let Timeframes {
             calendar: _,
             areas: _,
+            likes: _,
             count: _,
             rows: _,
             cuts: _,
@@ -72,11 +75,13 @@ impl<'c> Timeframes<'c> {
     {
         let count = feed.frame_names.items().len() as u32;
         let areas = Areas::build(alloc, feed)?;
+        let likes = like_stops(alloc, feed, &areas)?;
         let rows = rows_by_frame(alloc, feed.timeframes.items(), count)?;
         let cuts = cuts_of(alloc, feed)?;
         Ok(Timeframes {
             calendar,
             areas,
+            likes,
             count,
             rows,
             cuts,
@@ -161,6 +166,16 @@ impl<'c> Timeframes<'c> {
         }
     }
 
+    /// A stop with the same areas: many stops have the same.
+    pub fn like_stop(&self, stop: StopId) -> StopId
+        ensures { (feed : FeedRows) → AreTimeframesOf feed self.now → stop_areas feed result ≡ stop_areas feed stop }
+    {
+        match self.likes.get(stop.0 as usize) {
+            Some(like) => *like,
+            None => stop,
+        }
+    }
+
     /// A moment at which the same timeframe groups hold: many moments have the same.
     pub fn like_moment(&self, at: Moment) -> Moment
         ensures { (feed : FeedRows) → AreTimeframesOf feed self.now → frames_at feed result ≡ frames_at feed at }
@@ -168,13 +183,13 @@ impl<'c> Timeframes<'c> {
         moment_by(&self.cuts, at)
     }
 
-    /// A ride in which fare rules see the same, but that they count its seconds otherwise: many rides have the same.
+    /// A ride in which fare rules see the same, but for its seconds: many rides have the same.
     pub fn like_ride(&self, ride: &RideFacts) -> RideFacts
         ensures { (feed : FeedRows) → AreTimeframesOf feed self.now → AreLike feed result ride.now }
     {
         RideFacts {
-            from: ride.from,
-            to: ride.to,
+            from: self.like_stop(ride.from),
+            to: self.like_stop(ride.to),
             network: ride.network,
             departure: self.like_moment(ride.departure),
             arrival: self.like_moment(ride.arrival),

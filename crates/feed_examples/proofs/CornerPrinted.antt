@@ -8,7 +8,7 @@ use Rattle.feed_rows.specs.declared.journeys.Buyer.{Buyer}
 use Rattle.feed_rows.specs.declared.journeys.Ride.{Ride}
 use Rattle.feed_rows.specs.declared.fares.Choice.{Choice}
 use Rattle.feed_rows.specs.FeedRows.{FeedRows}
-use Rattle.feed_rows.specs.CommandTexts.{refused_line, check_text}
+use Rattle.commands.specs.CommandTexts.{refused_line, check_text}
 use Rattle.feed_rows.specs.JourneyEntries.{rides_price}
 use Rattle.feed_rows.specs.PriceTexts.{IsLeastPrice, price_text}
 use Rattle.feed_rows.specs.FareSums.{transfer_kind, starts_chain, is_charged, amount_of}

@@ -4,7 +4,7 @@ use Rattle.std.specs.Prelude.{◌≡◌, refl, ℕ, ◌==◌, if◌then◌else�
 use Rattle.std.specs.Fmt.{digits}
 use Rattle.transit_base.specs.DateTexts.{time_text}
 use Rattle.feed_rows.specs.MoneyText.{money_text}
-use Rattle.feed_rows.specs.CommandTexts.{stats_line}
+use Rattle.commands.specs.CommandTexts.{stats_line}
 use Rattle.feed_rows.specs.FeedRows.{FeedRows}
 use Rattle.feed_rows.specs.GeneratedTexts.{triple_line, gen_line, gen_text, AreMinimalTriples}
 use Rattle.feed_rows.specs.JourneyEntries.{IsMinimal}

@@ -5,7 +5,8 @@ use Rattle.std.specs.Fmt.{digits}
 use Rattle.jiff_core.specs.Calendar.{days_from_civil, day_count, days_of_years, days_of_months}
 use Rattle.transit_base.specs.DateTexts.{time_text}
 use Rattle.feed_files.specs.HeldFiles.{HeldFile}
-use Rattle.feed_rows.specs.GeneratedFeed.{drawn, offset, hop, route_name, network_name, area_name, trip_time, row_text, generated_stop_time_row, stops_file, routes_file, trips_file, calendar_file, areas_file, stop_areas_file, timeframes_file, fare_products_file, fare_leg_rules_file, fare_transfer_rules_file, generated, generated_plan}
+use Rattle.feed_rows.specs.GeneratedFeed.{drawn, offset, hop, route_name, network_name, area_name, trip_time, row_text, generated_stop_time_row, stops_file, routes_file, trips_file, calendar_file, areas_file, stop_areas_file, timeframes_file, fare_products_file, fare_leg_rules_file, fare_transfer_rules_file, generated}
+use Rattle.commands.specs.GeneratedPlan.{generated_plan}
 use Rattle.feed_files.specs.declared.names.FileName.TheVariants as file
 
 -- a text with `;` for each line feed

@@ -2,7 +2,8 @@
 use Rattle.std.specs.Prelude.{◌≡◌, refl, ℕ, ◌+◌, ◌-◌, ◌==◌, if◌then◌else◌, List, [], ◌∷◌, ◌++◌, length, drop, map, codes}
 use Rattle.std.specs.Fmt.{digits}
 use Rattle.transit_base.specs.DateTexts.{time_text}
-use Rattle.feed_rows.specs.GeneratedFeed.{drawn, offset, hop, stops_file, routes_file, trips_file, stop_areas_file, stop_times_file, generated_plan}
+use Rattle.feed_rows.specs.GeneratedFeed.{drawn, offset, hop, stops_file, routes_file, trips_file, stop_areas_file, stop_times_file}
+use Rattle.commands.specs.GeneratedPlan.{generated_plan}
 use Rattle.feed_examples.proofs.GeneratedChecks.{lined}
 
 -- the numbers of the last three routes, by the seventh to the twelfth draw

@@ -23,7 +23,6 @@ pub mod GeneratedStopTimes
 pub mod MoveChecks
 pub mod NameChecks
 pub mod NameTexts
-pub mod PlainPlans
 pub mod PriceRides
 pub mod PriceWords
 pub mod TextChecks

@@ -4,14 +4,15 @@ use Rattle.transit_base.specs.Moments.{moment_at, civil_day, time_of_day}
 use Rattle.transit_base.specs.Dates.{date_of, date_from_year, date_in_year}
 use Rattle.transit_base.specs.DateTexts.{time_text}
 use Rattle.feed_rows.specs.FeedRows.{FeedRows}
-use Rattle.feed_rows.specs.Requests.{PlanRequest}
-use Rattle.feed_rows.specs.Queries.{find_stop, find_trip, find_rider, chosen_rider, query_of, has_stop_id, has_trip_id, has_rider_id, is_default_rider}
+use Rattle.commands.specs.Requests.{PlanRequest}
+use Rattle.feed_rows.specs.RowsById.{find_stop, find_trip, find_rider, has_stop_id, has_trip_id, has_rider_id, is_default_rider}
+use Rattle.commands.specs.Queries.{chosen_rider, query_of}
 use Rattle.feed_rows.specs.declared.rows.RiderRow.{RiderRow}
 use Rattle.feed_rows.specs.declared.journeys.Buyer.{Buyer}
 use Rattle.feed_rows.specs.declared.journeys.Query.{Query}
-use Rattle.feed_rows.specs.declared.usage.StopWord.TheVariants as stop_word
-use Rattle.feed_rows.specs.declared.usage.UsageFault.{UsageFault}
-use Rattle.feed_rows.specs.declared.usage.UsageFault.TheVariants as usage
+use Rattle.commands.specs.declared.usage.StopWord.TheVariants as stop_word
+use Rattle.commands.specs.declared.usage.UsageFault.{UsageFault}
+use Rattle.commands.specs.declared.usage.UsageFault.TheVariants as usage
 use Rattle.feed_examples.specs.BaseFeed.{base, platform, trip, no_category, of_category}
 
 -- B and B2 are platforms of the station P, and E is an entrance

@@ -1,8 +1,8 @@
 -- What the definitions make of the rides that the words of `price` name, by examples over the base feed and its variants.
 use Rattle.std.specs.Prelude.{◌≡◌, refl, ℕ, Bool, true, false, List, [], ◌∷◌, map, replicate, Option, Some, None, Result, Ok, Err, pos, negsuc, codes}
 use Rattle.feed_rows.specs.declared.journeys.Ride.{Ride}
-use Rattle.feed_rows.specs.declared.usage.UsageFault.{UsageFault}
-use Rattle.feed_rows.specs.declared.usage.UsageFault.TheVariants as usage
+use Rattle.commands.specs.declared.usage.UsageFault.{UsageFault}
+use Rattle.commands.specs.declared.usage.UsageFault.TheVariants as usage
 use Rattle.feed_rows.specs.FeedRows.{FeedRows}
 use Rattle.feed_rows.specs.ServiceDays.{is_active}
 use Rattle.feed_rows.specs.Calls.{call_at, calls_of}
@@ -10,8 +10,9 @@ use Rattle.feed_rows.specs.Shifts.{shifts_of}
 use Rattle.feed_rows.specs.Rides.{is_ride, ride_facts}
 use Rattle.feed_rows.specs.StopLinks.{link}
 use Rattle.feed_rows.specs.RideWords.{RideWord}
-use Rattle.feed_rows.specs.Queries.{has_trip_id, has_rider_id, is_default_rider}
-use Rattle.feed_rows.specs.PriceQueries.{PriceQuery, named_ride, call_position, first_missed, price_query_of}
+use Rattle.feed_rows.specs.RowsById.{has_trip_id, has_rider_id, is_default_rider}
+use Rattle.feed_rows.specs.RowsById.{call_position}
+use Rattle.commands.specs.PriceQueries.{PriceQuery, named_ride, first_missed, price_query_of}
 use Rattle.feed_examples.specs.BaseFeed.{base, trip, call, no_category, of_category}
 use Rattle.feed_examples.proofs.WorkedRides.{frequent}
 use Rattle.feed_examples.proofs.WorkedEntries.{ride, from_b2}

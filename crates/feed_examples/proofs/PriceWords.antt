@@ -1,19 +1,15 @@
--- What the definitions make of the words of `price`, `gen` and of a plan with statistics, by examples.
-use Rattle.std.specs.Prelude.{◌≡◌, refl, ℕ, Bool, true, false, List, [], ◌∷◌, map, replicate, Option, Some, None, Result, Ok, Err, pos, negsuc, codes}
+-- What the definitions make of the words of `price`, `audit`, `gen` and of a plan with statistics, by examples.
+use Rattle.std.specs.Prelude.{◌≡◌, refl, ℕ, Bool, true, false, List, [], ◌∷◌, map, replicate, Option, Some, None, Result, Ok, Err, ℤ, pos, negsuc, codes}
 use Rattle.jiff_core.specs.Calendar.{days_from_civil, day_count, days_of_years, days_of_months}
 use Rattle.feed_rows.specs.Numerals.{number_value}
 use Rattle.feed_rows.specs.TimeGrammar.{time_value}
-use Rattle.feed_rows.specs.CommandWords.{role_at, value_at, fits_form}
+use Rattle.commands.specs.CommandWords.{role_at, value_at, fits_form}
 use Rattle.feed_rows.specs.RideWords.{RideWord, RideParts, ride_parts, ride_word}
-use Rattle.feed_rows.specs.Requests.{Request, Plan, Price, Check, Gen}
-use Rattle.feed_rows.specs.Commands.{plan, price, check, gen, without, read_words}
-use Rattle.feed_rows.specs.declared.usage.UsageFault.{UsageFault}
-use Rattle.feed_rows.specs.declared.usage.UsageFault.TheVariants as usage
-use Rattle.feed_examples.proofs.WordChecks.{spaced, wrong}
-
--- what the words of a text ask for, of all commands
-abbrev pub read_text : List ℕ → Result Request UsageFault
-read_text text = read_words (plan ∷ price ∷ check ∷ gen ∷ []) (spaced text)
+use Rattle.commands.specs.Requests.{Request, Asks, Gen, Plan, Price, Check, Audit}
+use Rattle.commands.specs.Commands.{read_command}
+use Rattle.commands.specs.declared.usage.UsageFault.{UsageFault}
+use Rattle.commands.specs.declared.usage.UsageFault.TheVariants as usage
+use Rattle.feed_examples.proofs.WordChecks.{read_text, wrong}
 
 -- ---- the parts of a ride's word
 
@@ -88,7 +84,7 @@ abbrev one_two : List ℕ → RideWord
 one_two trip = record { trip = trip; day = pos 0; start = None; from = 1; to = 2 }
 
 abbrev priced : Option (List ℕ) → List RideWord → Result Request UsageFault
-priced rider rides = Ok (Price (record { rider = rider; rides = rides }))
+priced rider rides = Ok (Asks (Price (record { rider = rider; rides = rides })))
 
 -- one to eight rides in order, with the rider before, behind or among them
 good_prices : map read_text
@@ -103,7 +99,7 @@ good_prices : map read_text
     ∷ wrong ∷ priced (Some (codes "-x")) (one_two (codes "T1") ∷ [])
     ∷ priced None (one_two (codes "A") ∷ one_two (codes "B") ∷ one_two (codes "C") ∷ one_two (codes "D")
     ∷ one_two (codes "E") ∷ one_two (codes "F") ∷ one_two (codes "G") ∷ one_two (codes "H") ∷ []) ∷ []
-unfolding read_words role_at value_at fits_form ride_word time_value number_value days_from_civil day_count days_of_years days_of_months
+unfolding read_command role_at value_at fits_form ride_word time_value number_value days_from_civil day_count days_of_years days_of_months
 good_prices = refl
 
 -- no ride, nine rides, a ride that begins with `-`, an empty word, and options of other commands: the words as a whole come
@@ -114,7 +110,7 @@ wrong_prices : map read_text
     ∷ codes "price x --rides 1" ∷ codes "price x --stats" ∷ codes "price x --within 60"
     ∷ codes "price x --rider a --rider b" ∷ codes "price x --rider" ∷ codes "price x -" ∷ codes "prices x" ∷ [])
     ≡ replicate 13 wrong
-unfolding read_words role_at value_at fits_form ride_word time_value number_value
+unfolding read_command role_at value_at fits_form ride_word time_value number_value
 wrong_prices = refl
 
 -- the first ride that isn't of the form, counted among the positional words alone
@@ -125,7 +121,7 @@ bad_ride_numbers : map read_text
     ≡ Err (usage.BadRide 1) ∷ Err (usage.BadRide 2) ∷ Err (usage.BadRide 1) ∷ Err (usage.BadRide 1)
     ∷ Err (usage.BadRide 2)
     ∷ Err (usage.BadRide 1) ∷ Err (usage.BadRide 3) ∷ []
-unfolding read_words role_at value_at fits_form ride_word time_value number_value days_from_civil day_count days_of_years days_of_months
+unfolding read_command role_at value_at fits_form ride_word time_value number_value days_from_civil day_count days_of_years days_of_months
 bad_ride_numbers = refl
 
 -- ---- gen
@@ -136,7 +132,7 @@ made seed lines = Ok (Gen (record { seed = seed; lines = lines }))
 -- the least and the greatest numbers, and leading zeros
 good_gens : map read_text (codes "gen 7 2" ∷ codes "gen 0 2" ∷ codes "gen 65535 32" ∷ codes "gen 007 0000000016" ∷ [])
     ≡ made 7 2 ∷ made 0 2 ∷ made 65_535 32 ∷ made 7 16 ∷ []
-unfolding read_words role_at value_at fits_form number_value
+unfolding read_command role_at value_at fits_form number_value
 good_gens = refl
 
 -- numbers out of range; the seed comes before the lines, and the words as a whole before both
@@ -148,14 +144,14 @@ bad_gens : map read_text
     ≡ Err usage.BadSeed ∷ Err usage.BadSeed ∷ Err usage.BadSeed ∷ Err usage.BadLines ∷ Err usage.BadLines
     ∷ Err usage.BadLines ∷ Err usage.BadSeed ∷ Err usage.BadLines
     ∷ wrong ∷ wrong ∷ wrong ∷ wrong ∷ wrong ∷ wrong ∷ []
-unfolding read_words role_at value_at fits_form number_value
+unfolding read_command role_at value_at fits_form number_value
 bad_gens = refl
 
 -- ---- a plan with statistics
 
 abbrev planned : ℕ → Bool → Result Request UsageFault
 planned rides stats =
-    Ok (Plan (record { from = codes "A"; to = codes "C"; departure = pos 1_748_851_200; rides = rides; rider = None; window = 86_400; stats = stats }))
+    Ok (Asks (Plan (record { from = codes "A"; to = codes "C"; departure = pos 1_748_851_200; rides = rides; rider = None; window = 86_400; stats = stats })))
 
 -- the flag stands anywhere behind the command, takes no value, and stands once
 stats_words : map read_text
@@ -169,21 +165,35 @@ stats_words : map read_text
     ∷ codes "plan A C 2025-06-02 24:00:00 --stats" ∷ codes "check" ∷ [])
     ≡ planned 4 false ∷ planned 4 true ∷ planned 0 true ∷ planned 4 true ∷ wrong ∷ wrong ∷ wrong ∷ wrong ∷ wrong
     ∷ wrong ∷ wrong
-    ∷ Err usage.BadTime ∷ Ok Check ∷ []
-unfolding read_words role_at value_at fits_form time_value number_value days_from_civil day_count days_of_years days_of_months
+    ∷ Err usage.BadTime ∷ Ok (Asks Check) ∷ []
+unfolding read_command role_at value_at fits_form time_value number_value days_from_civil day_count days_of_years days_of_months
 stats_words = refl
 
--- ---- the commands that a program takes
+-- ---- audit
 
--- a command that isn't taken is none, and so are an option and a flag that aren't
-abbrev some_of : List ℕ → Result Request UsageFault
-some_of text = read_words (without (codes "--rider" ∷ codes "--stats" ∷ []) plan ∷ gen ∷ []) (spaced text)
+abbrev audited : ℤ → ℤ → Option (List ℕ) → Result Request UsageFault
+audited first last rider = Ok (Asks (Audit (record { first = first; last = last; rider = rider })))
 
-taken_commands : map some_of
-    (codes "plan A C 2025-06-02 08:00:00" ∷ codes "plan A C 2025-06-02 08:00:00 --rides 1"
-    ∷ codes "plan A C 2025-06-02 08:00:00 --rider a"
-    ∷ codes "plan A C 2025-06-02 08:00:00 --rider=a" ∷ codes "plan A C 2025-06-02 08:00:00 --stats" ∷ codes "gen 7 2"
-    ∷ codes "check" ∷ codes "price x" ∷ [])
-    ≡ planned 4 false ∷ planned 1 false ∷ wrong ∷ wrong ∷ wrong ∷ made 7 2 ∷ wrong ∷ wrong ∷ []
-unfolding read_words role_at value_at fits_form ride_word time_value number_value days_from_civil day_count days_of_years days_of_months
-taken_commands = refl
+-- one day, 366 days, the 29th of February and a year from it, the first and the last date, and a rider
+good_audits : map read_text
+    (codes "audit 2025-06-02 2025-06-02" ∷ codes "audit 2025-01-01 2026-01-01" ∷ codes "audit 2024-02-29 2025-02-28"
+    ∷ codes "audit 1900-01-01 1900-01-01" ∷ codes "audit 2999-12-31 2999-12-31" ∷ codes "audit --rider a 1970-01-01 1970-01-02"
+    ∷ codes "audit 1970-01-01 1970-01-02 --rider=--" ∷ [])
+    ≡ audited (pos 20_241) (pos 20_241) None ∷ audited (pos 20_089) (pos 20_454) None ∷ audited (pos 19_782) (pos 20_147) None
+    ∷ audited (negsuc 25_566) (negsuc 25_566) None ∷ audited (pos 376_199) (pos 376_199) None
+    ∷ audited (pos 0) (pos 1) (Some (codes "a")) ∷ audited (pos 0) (pos 1) (Some (codes "--")) ∷ []
+unfolding read_command role_at value_at fits_form number_value days_from_civil day_count days_of_years days_of_months
+good_audits = refl
+
+-- dates that are none, a last day before the first or too late, FIRST before LAST, and the words as a whole before both
+bad_audits : map read_text
+    (codes "audit 2025-02-29 2025-06-02" ∷ codes "audit 20250602 x" ∷ codes "audit 1899-12-31 1900-01-01"
+    ∷ codes "audit 2025-06-02 2025-02-29" ∷ codes "audit 2025-06-02 2025-06-01" ∷ codes "audit 2025-01-01 2026-01-02"
+    ∷ codes "audit 2024-02-29 2025-03-01" ∷ codes "audit 2999-12-31 3000-01-01" ∷ codes "audit x x"
+    ∷ codes "audit 2025-06-02" ∷ codes "audit" ∷ codes "audit x x x" ∷ codes "audit x x --stats" ∷ codes "audit x x --rides 1"
+    ∷ codes "audit x x --within 60" ∷ codes "audit -x x" ∷ codes "audit x " ∷ codes "audits x x" ∷ [])
+    ≡ Err usage.BadFirst ∷ Err usage.BadFirst ∷ Err usage.BadFirst ∷ Err usage.BadLast ∷ Err usage.BadLast ∷ Err usage.BadLast
+    ∷ Err usage.BadLast ∷ Err usage.BadLast ∷ Err usage.BadFirst
+    ∷ wrong ∷ wrong ∷ wrong ∷ wrong ∷ wrong ∷ wrong ∷ wrong ∷ wrong ∷ wrong ∷ []
+unfolding read_command role_at value_at fits_form number_value days_from_civil day_count days_of_years days_of_months
+bad_audits = refl

@@ -3,19 +3,20 @@ use Rattle.std.specs.Prelude.{◌≡◌, refl, ℕ, ◌==◌, Bool, true, false,
 use Rattle.std.specs.Fmt.{digits}
 use Rattle.feed_rows.specs.Lines.{line}
 use Rattle.feed_rows.specs.MoneyText.{money_text}
-use Rattle.feed_rows.specs.CommandTexts.{usage_line, refused_line, check_text}
+use Rattle.commands.specs.CommandTexts.{usage_line, refused_line, check_text}
 use Rattle.feed_rows.specs.FeedRows.{FeedRows}
-use Rattle.feed_rows.specs.Requests.{PlanRequest}
-use Rattle.feed_rows.specs.Queries.{query_of, has_stop_id, has_rider_id, is_default_rider}
+use Rattle.commands.specs.Requests.{PlanRequest}
+use Rattle.feed_rows.specs.RowsById.{has_stop_id, has_rider_id, is_default_rider}
+use Rattle.commands.specs.Queries.{query_of}
 use Rattle.feed_rows.specs.declared.rows.StopRow.{StopRow}
 use Rattle.feed_rows.specs.declared.rows.RiderRow.{RiderRow}
 use Rattle.feed_rows.specs.declared.journeys.Query.{Query}
 use Rattle.feed_files.specs.declared.names.FileName.TheVariants as file
 use Rattle.feed_files.specs.declared.names.ColumnName.TheVariants as column
 use Rattle.feed_files.specs.declared.faults.FaultKind.TheVariants as kind
-use Rattle.feed_rows.specs.declared.usage.StopWord.TheVariants as stop_word
-use Rattle.feed_rows.specs.declared.usage.UsageFault.{UsageFault}
-use Rattle.feed_rows.specs.declared.usage.UsageFault.TheVariants as usage
+use Rattle.commands.specs.declared.usage.StopWord.TheVariants as stop_word
+use Rattle.commands.specs.declared.usage.UsageFault.{UsageFault}
+use Rattle.commands.specs.declared.usage.UsageFault.TheVariants as usage
 use Rattle.feed_examples.specs.BaseFeed.{base, no_category, of_category}
 
 -- a stop of this kind without a parent

@@ -5,11 +5,11 @@ use Rattle.transit_base.specs.Dates.{day_number}
 use Rattle.feed_rows.specs.Numerals.{number_value}
 use Rattle.feed_rows.specs.TimeGrammar.{time_value}
 use Rattle.feed_rows.specs.WordValues.{word_number, word_date, word_time}
-use Rattle.feed_rows.specs.CommandWords.{CommandForm, role_at, value_at, fits_form, positional_words, has_flag}
-use Rattle.feed_rows.specs.Requests.{Request, Plan, Check}
-use Rattle.feed_rows.specs.Commands.{Command, plan, check, without, read_words}
-use Rattle.feed_rows.specs.declared.usage.UsageFault.{UsageFault}
-use Rattle.feed_rows.specs.declared.usage.UsageFault.TheVariants as usage
+use Rattle.commands.specs.CommandWords.{CommandForm, role_at, value_at, fits_form, positional_words, has_flag}
+use Rattle.commands.specs.Requests.{Request, Asks, Plan, Check}
+use Rattle.commands.specs.Commands.{read_command}
+use Rattle.commands.specs.declared.usage.UsageFault.{UsageFault}
+use Rattle.commands.specs.declared.usage.UsageFault.TheVariants as usage
 
 -- a byte put before the first word
 abbrev pub onto_first : ℕ → List (List ℕ) → List (List ℕ)
@@ -21,18 +21,14 @@ abbrev pub spaced : List ℕ → List (List ℕ)
 spaced [] = [] ∷ []
 spaced (byte ∷ bytes) = if byte == 32 then [] ∷ spaced bytes else onto_first byte (spaced bytes)
 
--- the commands `plan`, without its flag, and `check`
-abbrev pub taken : List Command
-taken = without (codes "--stats" ∷ []) plan ∷ check ∷ []
-
 -- what the words of a text ask for
 abbrev pub read_text : List ℕ → Result Request UsageFault
-read_text text = read_words taken (spaced text)
+read_text text = read_command (spaced text)
 
 -- a plan from A to C on 2025-06-02 at 08:00:00
 abbrev plan_with : ℕ → Option (List ℕ) → ℕ → Result Request UsageFault
 plan_with rides rider window =
-    Ok (Plan (record { from = codes "A"; to = codes "C"; departure = pos 1_748_851_200; rides = rides; rider = rider; window = window; stats = false }))
+    Ok (Asks (Plan (record { from = codes "A"; to = codes "C"; departure = pos 1_748_851_200; rides = rides; rider = rider; window = window; stats = false })))
 
 abbrev pub wrong : Result Request UsageFault
 wrong = Err usage.WrongWords
@@ -88,22 +84,22 @@ pub plans :
     ≡ plan_with 4 None 86_400 ∷ plan_with 1 None 86_400 ∷ plan_with 1 None 86_400
     ∷ plan_with 0 (Some (codes "child")) 259_200 ∷ plan_with 8 None 1
     ∷ plan_with 4 (Some (codes "-x")) 86_400 ∷ plan_with 4 (Some (codes "=")) 86_400
-    ∷ plan_with 1 None 86_400 ∷ Ok Check ∷ []
-unfolding read_words role_at value_at fits_form time_value number_value days_from_civil day_count days_of_years days_of_months
+    ∷ plan_with 1 None 86_400 ∷ Ok (Asks Check) ∷ []
+unfolding read_command role_at value_at fits_form time_value number_value days_from_civil day_count days_of_years days_of_months
 plans = refl
 
 -- no words at all
-pub no_words : read_words taken [] ≡ wrong
-unfolding read_words
+pub no_words : read_command [] ≡ wrong
+unfolding read_command
 no_words = refl
 
 -- commands that there are not, words that a command does not take, and too few or too many positional words
 pub wrong_commands :
     map read_text
-    (codes "" ∷ codes "-" ∷ codes "--" ∷ codes "--help" ∷ codes "-h" ∷ codes "--version" ∷ codes "Plan" ∷ codes "plans" ∷ codes "price" ∷ codes "gen 7 2"
+    (codes "" ∷ codes "-" ∷ codes "--" ∷ codes "--help" ∷ codes "-h" ∷ codes "--version" ∷ codes "Plan" ∷ codes "plans" ∷ codes "prices" ∷ codes "gens 7 2"
     ∷ codes "check A" ∷ codes "check --rides 1" ∷ codes "check " ∷ codes "plan" ∷ codes "plan A C 2025-06-02" ∷ codes "plan A C 2025-06-02 08:00:00 D" ∷ [])
     ≡ wrong ∷ wrong ∷ wrong ∷ wrong ∷ wrong ∷ wrong ∷ wrong ∷ wrong ∷ wrong ∷ wrong ∷ wrong ∷ wrong ∷ wrong ∷ wrong ∷ wrong ∷ wrong ∷ []
-unfolding read_words role_at value_at fits_form
+unfolding read_command role_at value_at fits_form
 wrong_commands = refl
 
 -- words that begin with `-`, empty words, and options without a value or given twice
@@ -113,14 +109,14 @@ pub wrong_options :
     ∷ codes "plan A C 2025-06-02 08:00:00 --rider=" ∷ codes "plan A C 2025-06-02 08:00:00 --rider " ∷ codes "plan A C 2025-06-02 08:00:00 --rider -"
     ∷ codes "plan A C 2025-06-02 08:00:00 --rider --" ∷ codes "plan A C 2025-06-02 08:00:00 --rider --rides 1"
     ∷ codes "plan A C 2025-06-02 08:00:00 --rides 1 --rides 1" ∷ codes "plan --rides=1 A C 2025-06-02 08:00:00 --rides 1"
-    ∷ codes "plan A C 2025-06-02 08:00:00 --rides=1 --rides=2" ∷ codes "plan A C 2025-06-02 08:00:00 --stats"
+    ∷ codes "plan A C 2025-06-02 08:00:00 --rides=1 --rides=2" ∷ codes "plan A C 2025-06-02 08:00:00 --statistics"
     ∷ codes "plan A C 2025-06-02 08:00:00 --one-medium" ∷ codes "plan A C 2025-06-02 08:00:00 -r" ∷ codes "plan A C 2025-06-02 08:00:00 --ride 1"
     ∷ codes "plan A C 2025-06-02 08:00:00 ---" ∷ codes "plan A C 2025-06-02 08:00:00 -" ∷ codes "plan A C 2025-06-02 08:00:00 --"
     ∷ codes "plan A C 2025-06-02 08:00:00 " ∷ codes "plan  C 2025-06-02 08:00:00" ∷ codes "plan -A C 2025-06-02 08:00:00"
     ∷ codes "plan A C 2025-06-02 08:00:00 --help" ∷ codes "plan A C 2025-06-02 08:00:00 --version" ∷ codes "plan A C 2025-06-02 08:00:00 -h" ∷ [])
     ≡ wrong ∷ wrong ∷ wrong ∷ wrong ∷ wrong ∷ wrong ∷ wrong ∷ wrong ∷ wrong ∷ wrong ∷ wrong ∷ wrong
     ∷ wrong ∷ wrong ∷ wrong ∷ wrong ∷ wrong ∷ wrong ∷ wrong ∷ wrong ∷ wrong ∷ wrong ∷ wrong ∷ wrong ∷ []
-unfolding read_words role_at value_at fits_form
+unfolding read_command role_at value_at fits_form
 wrong_options = refl
 
 -- values out of their range, and their order: first the words as a whole, then DATE, TIME, --rides, --within
@@ -135,7 +131,7 @@ pub faults_in_order :
     ≡ Err usage.BadDate ∷ Err usage.BadTime ∷ Err usage.BadRides ∷ Err usage.BadRides ∷ Err usage.BadRides
     ∷ Err usage.BadRides ∷ Err usage.BadRides ∷ Err usage.BadWindow ∷ Err usage.BadWindow ∷ Err usage.BadWindow
     ∷ wrong ∷ Err usage.BadDate ∷ Err usage.BadTime ∷ Err usage.BadRides ∷ Err usage.BadTime ∷ []
-unfolding read_words role_at value_at fits_form time_value number_value days_from_civil day_count days_of_years days_of_months
+unfolding read_command role_at value_at fits_form time_value number_value days_from_civil day_count days_of_years days_of_months
 faults_in_order = refl
 
 -- a command with a flag and one to three positional words

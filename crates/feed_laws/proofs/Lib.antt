@@ -5,13 +5,11 @@ pub mod ChoiceLaws
 pub mod ExactLaws
 pub mod FareLaws
 pub mod FeedReadings
-pub mod GeneratedLaws
 pub mod JourneyLaws
 pub mod LeastPriceLaws
 pub mod MomentLaws
 pub mod OpenRowLaws
 pub mod ParetoLaws
-pub mod PriceQueryLaws
 pub mod RideLaws
 pub mod SameStates
 pub mod SelectionLaws
@@ -26,3 +24,4 @@ pub mod SumLaws
 pub mod TimedLaws
 pub mod TransferLaws
 pub mod DateLaws
+pub mod RowIdLaws

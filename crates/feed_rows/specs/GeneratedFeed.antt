@@ -2,14 +2,10 @@
 -- numbers that tell when its trips depart and how long they take.
 use Rattle.std.specs.Prelude.{ℕ, zero, suc, ◌+◌, ◌-◌, ◌*◌, ◌%◌, ◌==◌, nat_lt, if◌then◌else◌, List, [], ◌∷◌, ◌++◌, map, replicate, None, false, pos, codes, decimal}
 use Rattle.std.specs.List.{flat_map}
-use Rattle.feed_rows.specs.Limits.{usual_window}
-use Rattle.transit_base.specs.Dates.{day_number}
-use Rattle.transit_base.specs.Moments.{moment_at}
 use Rattle.transit_base.specs.DateTexts.{time_text}
 use Rattle.plain_laws.specs.Plain.{list_below, joined_below}
 use Rattle.feed_files.specs.Names.{column_text}
 use Rattle.feed_files.specs.HeldFiles.{HeldFile}
-use Rattle.feed_rows.specs.Requests.{PlanRequest}
 use Rattle.feed_files.specs.declared.names.FileName.{FileName}
 use Rattle.feed_files.specs.declared.names.FileName.TheVariants as file
 use Rattle.feed_files.specs.declared.names.ColumnName.{ColumnName}
@@ -193,18 +189,3 @@ generated seed lines file.FareMedia = HeldFile.Missing
 generated seed lines file.FareProducts = HeldFile.Bytes fare_products_file
 generated seed lines file.FareLegRules = HeldFile.Bytes fare_leg_rules_file
 generated seed lines file.FareTransferRules = HeldFile.Bytes fare_transfer_rules_file
-
--- ---- the plan over them
-
--- the plan over the feed: from the first stop to the last on 2025-06-02 at 07:00:00, with at most 4 rides within a day
-abbrev pub generated_plan : ℕ → PlanRequest
-generated_plan lines =
-    record {
-      from = stop_name 0 0;
-      to = stop_name (lines - 1) (lines - 1);
-      departure = moment_at (day_number 2025 6 2) (pos 25_200);
-      rides = 4;
-      rider = None;
-      window = usual_window;
-      stats = false;
-    }

@@ -7,8 +7,6 @@ use Rattle.feed_rows.specs.FeedRows.{FeedRows}
 use Rattle.feed_rows.specs.EntryText.{amount_text}
 use Rattle.feed_rows.specs.ParetoTriples.{is_before}
 use Rattle.feed_rows.specs.JourneyEntries.{IsMinimal}
-use Rattle.feed_rows.specs.Queries.{query_of}
-use Rattle.feed_rows.specs.GeneratedFeed.{generated_plan}
 use Rattle.feed_rows.specs.declared.journeys.Query.{Query}
 use Rattle.feed_rows.specs.declared.fares.Triple.{Triple}
 
@@ -33,11 +31,3 @@ pub record AreMinimalTriples (feed : FeedRows) (query : Query) (triples : List T
   pub minimal : All (IsMinimal feed query) triples
   pub complete : (triple : Triple) → IsMinimal feed query triple → Contains triples triple
   pub in_order : AllPairs (λ a b. IsTrue (is_before a b)) triples
-
--- the text is that of `gen` over this feed, which has so many lines
-pub record IsGenText (feed : FeedRows) (lines : ℕ) (text : List ℕ) : Type 0 where
-  pub query : Query
-  pub is_query : query_of feed (generated_plan lines) ≡ Ok query
-  pub triples : List Triple
-  pub are_minimal : AreMinimalTriples feed query triples
-  pub is_text : text ≡ gen_text feed triples

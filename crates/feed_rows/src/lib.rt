@@ -8,7 +8,6 @@ mod journeys;
 mod rows;
 mod states;
 mod times;
-mod usage;
 
 pub use fares::{
     ChangeChoice, ChangeChoices, Choice, Entries, Entry, LegChoice, LegChoices, RowList, RuleList,
@@ -31,4 +30,3 @@ pub use rows::{
 };
 pub use states::{FareState, Move, Moves, same_group};
 pub use times::CallTime;
-pub use usage::{StopWord, UsageFault, WordRole};

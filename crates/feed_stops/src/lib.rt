@@ -3,7 +3,7 @@
 
 ghost use Rattle.std.specs.Prelude.{◌≡◌, IfOk};
 ghost use Rattle.feed_rows.specs.FeedRows.{FeedRows};
-ghost use Rattle.feed_rows.specs.Queries.{find_stop, has_stop_id};
+ghost use Rattle.feed_rows.specs.RowsById.{find_stop, has_stop_id};
 ghost use Rattle.feed_rows.specs.StopLinks.{stop_set};
 ghost use Rattle.feed_rows.specs.StopSets.{stop_sets};
 ghost use Rattle.feed_stops.specs.BuiltStops.{AreStopsOf};
@@ -69,7 +69,7 @@ impl<'f> Stops<'f> {
 }
 
 /// Whether the stop of the row has this id.
-#[tactic(auto, unfolding(feed_rows::specs::Queries::has_stop_id))]
+#[tactic(auto, unfolding(feed_rows::specs::RowsById::has_stop_id))]
 fn has_id(feed: &Feed, row: usize, id: &[u8]) -> bool
     ensures { result ≡ has_stop_id feed.now id.now row }
 {

@@ -1,12 +1,12 @@
 //! The trips by their ids.
 ghost use Rattle.std.specs.Prelude.{◌≡◌};
-ghost use Rattle.feed_rows.specs.Queries.{find_trip, has_trip_id};
+ghost use Rattle.feed_rows.specs.RowsById.{find_trip, has_trip_id};
 
 use feed_rows::Feed;
 use transit_base::TripId;
 
 // Whether the trip of the row has this id.
-#[tactic(auto, unfolding(feed_rows::specs::Queries::has_trip_id))]
+#[tactic(auto, unfolding(feed_rows::specs::RowsById::has_trip_id))]
 fn has_id(feed: &Feed, row: usize, id: &[u8]) -> bool
     ensures { result ≡ has_trip_id feed.now id.now row }
 {

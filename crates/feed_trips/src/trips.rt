@@ -6,7 +6,7 @@ ghost use Rattle.feed_rows.specs.declared.journeys.Call.{Call};
 ghost use Rattle.feed_rows.specs.Calls.{calls_of, first_departure};
 ghost use Rattle.feed_rows.specs.Shifts.{has_frequencies, is_shift, shifts_of};
 ghost use Rattle.feed_rows.specs.Rides.{runs_on, is_ride, ride_facts, facts_between, moment_of, trip_network};
-ghost use Rattle.feed_rows.specs.Queries.{find_trip};
+ghost use Rattle.feed_rows.specs.RowsById.{find_trip};
 ghost use Rattle.plain_laws.specs.Plain.{at_and};
 ghost use Rattle.feed_trips.specs.Runs.{AreRunsOf, IsSoundRun};
 

@@ -3,13 +3,13 @@ use Rattle.std.proofs.Common.{◌≡◌, ℕ, List, Bool, true, false, Option, N
 use Rattle.std.specs.Prelude.{Some, Result, Ok, Err, IfSome}
 use Rattle.feed_files.specs.FaultCounts.{Rose}
 use Rattle.feed_files.specs.HeldFiles.{HeldFile, held}
-use Rattle.feed_rows.specs.Requests.{Request}
+use Rattle.commands.specs.Requests.{Request}
 use Rattle.feed_files.specs.declared.names.FileName.{FileName}
-use Rattle.feed_rows.specs.declared.usage.UsageFault.{UsageFault}
+use Rattle.commands.specs.declared.usage.UsageFault.{UsageFault}
 use Rattle.folder_io.specs.FileReading.{Gives}
 use Rattle.folder_io.specs.FolderCalls.{Contents, FolderState}
 use Rattle.folder_io.specs.SinkCalls.{SinkState}
-use Rattle.plan_words.specs.Words.{read_command}
+use Rattle.commands.specs.Commands.{read_command}
 use Rattle.command_answers.specs.Due.{Task, task_for, due, IsDue}
 use Rattle.plan_app.specs.Run.{asks_folder, writes_nothing, WhereRead, Explains, AnswersAll}
 use Rattle.command_answers.specs.declared.refusal.Refusal.{Refusal}
@@ -44,9 +44,7 @@ same_due : (folder later : FolderState) (files other : FileName → HeldFile) (a
     → task_for other asked ≡ task_for files asked
 same_due folder later files other (Ok (Request.Gen request)) may gives = refl
 same_due folder later files other (Err fault) may gives = refl
-same_due folder later files other (Ok (Request.Plan request)) may gives = rw ((may refl).1 other gives) refl
-same_due folder later files other (Ok (Request.Price request)) may gives = rw ((may refl).1 other gives) refl
-same_due folder later files other (Ok Request.Check) may gives = rw ((may refl).1 other gives) refl
+same_due folder later files other (Ok (Request.Asks question)) may gives = rw ((may refl).1 other gives) refl
 
 module _ (words : List (List ℕ)) (folder later : FolderState) (sink after : SinkState) (came : Status) where
   -- a task that is due over them is answered, or memory was wanting, where no write failed

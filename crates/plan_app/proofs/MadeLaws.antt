@@ -8,18 +8,18 @@ use Rattle.feed_files.specs.HeldFiles.{HeldFile, held}
 use Rattle.feed_rows.specs.JourneyEntries.{IsExactAnswer, CoversOffers}
 use Rattle.feed_rows.specs.ParetoTriples.{at_most}
 use Rattle.feed_rows.specs.ClosedTable.{IsClosedTable}
-use Rattle.feed_rows.specs.CommandTexts.{stats_line}
+use Rattle.commands.specs.CommandTexts.{stats_line}
 use Rattle.feed_rows.specs.EntryText.{lines_of_entries}
 use Rattle.feed_rows.specs.RoundTables.{RoundTable, entries_of}
 use Rattle.feed_rows.specs.SoundTable.{IsSoundTable}
-use Rattle.feed_rows.specs.Queries.{query_of}
-use Rattle.feed_rows.specs.Requests.{PlanRequest, Request}
+use Rattle.commands.specs.Queries.{query_of}
+use Rattle.commands.specs.Requests.{PlanRequest, Request}
 use Rattle.feed_rows.specs.declared.fares.Entry.{Entry}
 use Rattle.feed_rows.specs.declared.journeys.Query.{Query}
 use Rattle.feed_files.specs.declared.faults.FeedFault.{FeedFault}
 use Rattle.feed_files.specs.declared.names.FileName.{FileName}
-use Rattle.plan_words.specs.Words.{read_command}
-use Rattle.feed_laws.proofs.GeneratedLaws.{exact_triples}
+use Rattle.commands.specs.Commands.{read_command}
+use Rattle.commands.proofs.GeneratedLaws.{exact_triples}
 use Rattle.folder_io.specs.FolderCalls.{Contents, FolderState}
 use Rattle.folder_io.proofs.LogLaws.{makes_none}
 use Rattle.feed_check.specs.LoadErrors.{StopsReading}

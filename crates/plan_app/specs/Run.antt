@@ -2,14 +2,14 @@
 use Rattle.std.specs.Prelude.{◌≡◌, ◌⊎◌, ℕ, Bool, true, false, IsTrue, List, Result, Ok, Err}
 use Rattle.feed_files.specs.FaultCounts.{Rose}
 use Rattle.feed_files.specs.HeldFiles.{HeldFile, held}
-use Rattle.feed_rows.specs.Requests.{Request}
+use Rattle.commands.specs.Requests.{Request}
 use Rattle.feed_files.specs.declared.names.FileName.{FileName}
-use Rattle.feed_rows.specs.declared.usage.UsageFault.{UsageFault}
+use Rattle.commands.specs.declared.usage.UsageFault.{UsageFault}
 use Rattle.folder_io.specs.FolderCalls.{FolderState, WhereTold}
 use Rattle.folder_io.specs.FileReading.{OpensAll}
 use Rattle.folder_io.specs.SinkCalls.{SinkState}
 use Rattle.feed_check.specs.LoadErrors.{FailsReading, StopsReading}
-use Rattle.plan_words.specs.Words.{read_command}
+use Rattle.commands.specs.Commands.{read_command}
 use Rattle.command_answers.specs.Due.{Task, due, IsDueOver}
 use Rattle.command_answers.specs.Written.{WritesAll, WritesSome}
 use Rattle.command_answers.specs.declared.status.Status.{Status}
@@ -17,9 +17,7 @@ use Rattle.command_answers.specs.declared.status.Status.TheVariants as status
 
 -- the words ask for something of the folder
 abbrev pub asks_folder : Result Request UsageFault → Bool
-asks_folder (Ok (Request.Plan request)) = true
-asks_folder (Ok (Request.Price request)) = true
-asks_folder (Ok Request.Check) = true
+asks_folder (Ok (Request.Asks question)) = true
 asks_folder (Ok (Request.Gen request)) = false
 asks_folder (Err fault) = false
 

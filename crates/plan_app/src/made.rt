@@ -7,7 +7,7 @@ ghost use Rattle.feed_text.specs.TextErrors.{IsErrorOf};
 ghost use Rattle.plan_app.specs.Made.{IsFeedFor, GivesNone, IsMade, Fails};
 ghost use Rattle.plan_app.specs.Run.{Reads, asks_folder};
 ghost use Rattle.plan_words.specs.Request.{command_request, IsUsualGen, IsUsualRequest};
-ghost use Rattle.plan_words.specs.Words.{read_command};
+ghost use Rattle.commands.specs.Commands.{read_command};
 
 use crate::planning::outcome_of;
 use command_answers::{Failure, Outcome, Refusal, refused};
@@ -49,7 +49,7 @@ fn feed_for<F: Folder>(
             Err(TextError::Fault(fault)) => Err(LoadError::Fault(fault)),
             Err(TextError::NoMemory) => Err(LoadError::NoMemory),
         },
-        CommandWords::Plan(_) | CommandWords::Price(_) | CommandWords::Check => load(alloc, folder),
+        CommandWords::Asks(_) => load(alloc, folder),
     }
 }
 

@@ -1,22 +1,26 @@
 //! What a command answers over a feed.
 ghost use Rattle.std.specs.Prelude.{◌≡◌, ℕ, ◌-◌, ◌++◌, ◌∷◌, [], IfOk, OnOk};
-ghost use Rattle.feed_rows.specs.CommandTexts.{stats_line};
-ghost use Rattle.feed_rows.specs.GeneratedFeed.{generated_plan, stop_name};
-ghost use Rattle.feed_rows.specs.Queries.{query_of};
-ghost use Rattle.command_answers.specs.Due.{Task, task_by, task_of, AreGenLines, ArePlanLines, AreTableLines, DoTask};
+ghost use Rattle.commands.specs.CommandTexts.{stats_line};
+ghost use Rattle.feed_rows.specs.GeneratedFeed.{stop_name};
+ghost use Rattle.commands.specs.GeneratedPlan.{generated_plan};
+ghost use Rattle.commands.specs.PriceQueries.{price_query_of};
+ghost use Rattle.commands.specs.Queries.{query_of};
+ghost use Rattle.command_answers.specs.Due.{Task, task_asked, task_by, task_of, AreGenLines, ArePlanLines, AreTableLines, DoTask};
 ghost use Rattle.plan_rides.specs.InTime.{IsUsualQuery};
 ghost use Rattle.command_answers.specs.Outcomes.{IsOutcome};
 ghost use Rattle.plan_app.specs.Made.{plan_task, planned};
-ghost use Rattle.plan_words.specs.Request.{request_of, command_request, IsUsualPlan, IsUsualGen, IsUsualRequest};
+ghost use Rattle.plan_words.specs.Request.{command_request, price_request, question_of, request_of, IsUsualGen, IsUsualPlan, IsUsualQuestion, IsUsualRequest};
+ghost use Rattle.plan_words.specs.Rides.{AreUsualRides};
 
 use command_answers::{
-    Outcome, Refusal, answered, check_outcome, price_outcome, query_of, refused, stats_line_of,
+    Outcome, Refusal, answered, audit_outcome, check_outcome, price_outcome, query_of, refused,
+    stats_line_of,
 };
 use feed_maker::stop_id;
 use feed_rows::{Feed, Query, USUAL_WINDOW};
 use feed_timetable::Timetable;
 use plan_rounds::{round_entries, rounds};
-use plan_words::{CommandWords, GenWords, PlanWords};
+use plan_words::{CommandWords, GenWords, PlanWords, PriceWords, Question};
 use std::alloc::{AllocError, Global};
 use ticket_explain::{Text, gen_lines_of, text_of};
 use transit_base::{Day, Moment};
@@ -113,37 +117,56 @@ fn generated_plan(last: &str) -> PlanWords<'_>
     }
 }
 
-// What a generated feed answers: the triples of the plan from its first stop to its last.
-fn gen_outcome(
+// What a plan answers over a feed.
+fn plan_over(
     alloc: Global,
-    timetable: &Timetable,
-    words: &GenWords,
+    feed: &Feed,
+    plan: &PlanWords,
+    triples: bool,
 ) -> Result<Outcome, AllocError>
-    requires usual { IsUsualGen words.now }
-    ensures { IfOk result (IsOutcome (task_by (Task.Generates timetable.now) (query_of timetable.now (generated_plan words.now.lines)))) }
+    requires usual { IsUsualPlan plan.now }
+    ensures { IfOk result (IsOutcome (planned triples feed.now (request_of plan.now))) }
 {
-    let last = stop_id(alloc, words.lines - 1, words.lines - 1)?;
-    plan_outcome(alloc, timetable, &generated_plan(last.as_str()), true)
-}
-
-// What a command answers over the timetable of its feed.
-fn outcome_over(
-    alloc: Global,
-    timetable: &Timetable,
-    command: &CommandWords,
-) -> Result<Outcome, AllocError>
-    requires { IsUsualRequest command.now }
-    ensures { IfOk result (IsOutcome (task_of timetable.now (command_request command.now))) }
-{
-    match command {
-        CommandWords::Check => check_outcome(alloc, timetable.feed()),
-        CommandWords::Plan(plan) => plan_outcome(alloc, timetable, plan, false),
-        CommandWords::Price(words) => price_outcome(alloc, timetable, words),
-        CommandWords::Gen(words) => gen_outcome(alloc, timetable, words),
+    match Timetable::build(alloc, feed) {
+        Ok(timetable) => plan_outcome(alloc, &timetable, plan, triples),
+        Err(AllocError) => Err(AllocError),
     }
 }
 
-/// What a command answers over a feed. A check alone makes no timetable of it.
+// What the price of rides answers over a feed.
+fn price_over(alloc: Global, feed: &Feed, words: &PriceWords) -> Result<Outcome, AllocError>
+    requires usual { AreUsualRides words.now.rides }
+    ensures { IfOk result (IsOutcome (task_by (Task.Prices feed.now) (price_query_of feed.now (price_request words.now)))) }
+{
+    match Timetable::build(alloc, feed) {
+        Ok(timetable) => price_outcome(alloc, &timetable, words),
+        Err(AllocError) => Err(AllocError),
+    }
+}
+
+// What a generated feed answers: the triples of the plan from its first stop to its last.
+fn gen_outcome(alloc: Global, feed: &Feed, words: &GenWords) -> Result<Outcome, AllocError>
+    requires usual { IsUsualGen words.now }
+    ensures { IfOk result (IsOutcome (task_by (Task.Generates feed.now) (query_of feed.now (generated_plan words.now.lines)))) }
+{
+    let last = stop_id(alloc, words.lines - 1, words.lines - 1)?;
+    plan_over(alloc, feed, &generated_plan(last.as_str()), true)
+}
+
+// What is answered about a feed. A check and an audit make no timetable of it.
+fn answer_of(alloc: Global, feed: &Feed, question: &Question) -> Result<Outcome, AllocError>
+    requires { IsUsualQuestion question.now }
+    ensures { IfOk result (IsOutcome (task_asked feed.now (question_of question.now))) }
+{
+    match question {
+        Question::Check => check_outcome(alloc, feed),
+        Question::Plan(plan) => plan_over(alloc, feed, plan, false),
+        Question::Price(words) => price_over(alloc, feed, words),
+        Question::Audit(words) => audit_outcome(alloc, feed, words),
+    }
+}
+
+/// What a command answers over its feed.
 ///
 /// # Errors
 /// Want of memory.
@@ -155,11 +178,8 @@ pub(crate) fn outcome_of(
     requires { IsUsualRequest command.now }
     ensures { IfOk result (IsOutcome (task_of feed.now (command_request command.now))) }
 {
-    if let CommandWords::Check = command {
-        return check_outcome(alloc, feed);
-    }
-    match Timetable::build(alloc, feed) {
-        Ok(timetable) => outcome_over(alloc, &timetable, command),
-        Err(AllocError) => Err(AllocError),
+    match command {
+        CommandWords::Asks(question) => answer_of(alloc, feed, question),
+        CommandWords::Gen(words) => gen_outcome(alloc, feed, words),
     }
 }

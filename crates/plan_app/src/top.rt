@@ -1,6 +1,6 @@
 //! The top call.
 ghost use Rattle.std.specs.Prelude.{◌≡◌, true, false};
-ghost use Rattle.plan_words.specs.Words.{read_command};
+ghost use Rattle.commands.specs.Commands.{read_command};
 ghost use Rattle.plan_app.specs.Run.{AnswersAll, Explains, asks_folder, writes_nothing};
 
 use crate::made::made;

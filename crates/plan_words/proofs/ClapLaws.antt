@@ -1,19 +1,21 @@
 -- What `clap` finds in words that fit is what the definitions give.
-use Rattle.std.proofs.Common.{◌≡◌, Bool, true, false, List, [], ◌∷◌, length, map, drop, Some, Option, refl, sym, ap, subst, ◌∙◌}
-use Rattle.std.specs.Prelude.{codes, bytes_eq, is_some, unwrap_or, ◌||◌}
+use Rattle.std.proofs.Common.{◌≡◌, Bool, true, false, List, [], ◌∷◌, length, map, filter, drop, Some, Option, refl, sym, ap, subst, ◌∙◌}
+use Rattle.std.specs.Prelude.{codes, bytes_eq, is_some, not, unwrap_or, ◌||◌}
 use Rattle.std.specs.List.{list_all, list_any}
 use Rattle.plain_laws.specs.Plain.{all_below}
 use Rattle.plain_laws.proofs.Laws.{bytes_eq-true, eq-bytes_eq}
-use Rattle.feed_rows.specs.CommandWords.{has_flag, is_one_of, joined_value, role_at, is_taken, option_value, fits_form}
+use Rattle.commands.specs.CommandWords.{has_flag, is_one_of, joined_value, role_at, is_taken, option_value, fits_form}
 use Rattle.clap.specs.Matches.{first_value, found_of}
 use Rattle.clap.specs.Simple.{built, is_simple, matches_of}
 use Rattle.clap.specs.Walk.{Rule, Text, arg_by_id, arg_by_index, arg_by_long, first_of, is_empty, rows_after, rows_of}
 use Rattle.clap.specs.declared.parser.matches.ArgMatches.{ArgMatches}
 use Rattle.clap.proofs.WalkLemmas.{first_value-rows, raw_values-rows}
 use Rattle.plan_words.specs.Found.{IsFound, known_command}
-use Rattle.plan_words.specs.Words.{behind, form_of}
-use Rattle.plan_words.specs.declared.grammar.Form.{Form}
-use Rattle.plan_words.specs.declared.grammar.Form.TheVariants as form
+use Rattle.commands.specs.Table.{form_of, has_value, option_text, options_of}
+use Rattle.commands.specs.declared.table.CommandName.{CommandName}
+use Rattle.commands.specs.declared.table.CommandOption.{CommandOption}
+use Rattle.commands.specs.declared.table.CommandOption.TheVariants as option
+use Rattle.plan_words.specs.Words.{behind}
 use Rattle.plan_words.proofs.OptionLaws.{Named, rides, rider, within, flag_id, flag_name, flag_taken, id_of, name_of, option_taken, words_taken}
 use Rattle.plan_words.proofs.RowLaws.{values_in}
 use Rattle.plan_words.proofs.WalkLaws.{IsKnown, flag_found, option_found, words_found}
@@ -22,57 +24,67 @@ use Rattle.plan_words.proofs.WordLaws.{first_of_two}
 none_takes : {X : Type 0} → false ≡ true → X
 none_takes bad = absurd (cc)
 
--- the options of a form
-abbrev options_in : Form → List Named
-options_in form.Plan = rides ∷ rider ∷ within ∷ []
-options_in form.Price = rider ∷ []
-options_in form.Check = []
-options_in form.Gen = []
-
-options_are : (f : Form) → (form_of f).options ≡ map id_of (options_in f)
-options_are form.Plan = refl
-options_are form.Price = refl
-options_are form.Check = refl
-options_are form.Gen = refl
-
-or_none : (a : Bool) → (a || false) ≡ true → a ≡ true
-or_none true e = refl
-or_none false e = e
-
-flag_is : (f : Form) (word : Text) → is_one_of (form_of f).flags word ≡ true → word ≡ flag_id
-flag_is form.Plan word takes = bytes_eq-true word flag_id (or_none (bytes_eq word flag_id) takes)
-flag_is form.Price word takes = none_takes takes
-flag_is form.Check word takes = none_takes takes
-flag_is form.Gen word takes = none_takes takes
-
-named_among : (ks : List Named) (word : Text) → is_one_of (map id_of ks) word ≡ true → (k : Named) × (word ≡ id_of k)
-named_among [] word any = none_takes any
-named_among (k ∷ ks) word any = step (named_among ks word) (bytes_eq word (id_of k)) refl
-  where
-    step : (is_one_of (map id_of ks) word ≡ true → (j : Named) × (word ≡ id_of j)) → (here : Bool)
-        → bytes_eq word (id_of k) ≡ here → (j : Named) × (word ≡ id_of j)
-    step among true e = (k, bytes_eq-true word (id_of k) e)
-    step among false e = among (rw e at any)
-
 or_right : (a b : Bool) → b ≡ true → (a || b) ≡ true
 or_right true b e = refl
 or_right false b e = e
 
-joined_among : (ks : List Named) (word : Text)
-    → list_any (λ name. is_some (joined_value name word)) (map id_of ks) ≡ true
-    → (k : Named) × (is_one_of (map id_of ks) (id_of k) ≡ true) × (is_some (joined_value (id_of k) word) ≡ true)
-joined_among [] word any = none_takes any
-joined_among (k ∷ ks) word any = step (joined_among ks word) (is_some (joined_value (id_of k) word)) refl
+-- an option that has a value is one of these
+named_option : (o : CommandOption) → has_value o ≡ true → (k : Named) × (option_text o ≡ id_of k)
+named_option option.Rides e = (rides, refl)
+named_option option.Rider e = (rider, refl)
+named_option option.Within e = (within, refl)
+named_option option.Stats e = none_takes e
+
+-- and one that has none is the flag
+flag_option : (o : CommandOption) → not (has_value o) ≡ true → option_text o ≡ flag_id
+flag_option option.Rides e = none_takes e
+flag_option option.Rider e = none_takes e
+flag_option option.Within e = none_takes e
+flag_option option.Stats e = refl
+
+-- the names of options that pass
+abbrev names : (CommandOption → Bool) → List CommandOption → List Text
+names picks os = map option_text (filter picks os)
+
+-- an option that is picked, whose name passes and is one of the names
+abbrev Found : (Text → Bool) → (CommandOption → Bool) → List CommandOption → Type 0
+Found test picks os =
+    (o : CommandOption) × (picks o ≡ true) × (test (option_text o) ≡ true) × (is_one_of (names picks os) (option_text o) ≡ true)
+
+-- where one of the names passes there is such an option
+among : (test : Text → Bool) (picks : CommandOption → Bool) (os : List CommandOption) → list_any test (names picks os) ≡ true → Found test picks os
+among test picks [] any = none_takes any
+among test picks (o ∷ os) any = step (picks o) refl (among test picks os)
   where
-    step : (list_any (λ name. is_some (joined_value name word)) (map id_of ks) ≡ true
-        → (j : Named) × (is_one_of (map id_of ks) (id_of j) ≡ true) ×
-        (is_some (joined_value (id_of j) word) ≡ true)) → (here : Bool) → is_some (joined_value (id_of k) word) ≡ here
-        → (j : Named) × (is_one_of (map id_of (k ∷ ks)) (id_of j) ≡ true) ×
-        (is_some (joined_value (id_of j) word) ≡ true)
-    step among true e = (k, rw (eq-bytes_eq (id_of k) (id_of k) refl) refl, e)
-    step among false e =
-        let rest = among (rw e at any) in
-        (rest.0, or_right (bytes_eq (id_of rest.0) (id_of k)) _ rest.1, rest.2)
+    step : (here : Bool) → picks o ≡ here → (list_any test (names picks os) ≡ true → Found test picks os) → Found test picks (o ∷ os)
+    step false e rest = let found = rest (rw e at any) in (found.0, found.1, found.2, rw e found.3)
+    step true e rest = both (test (option_text o)) refl
+      where
+        both : (passes : Bool) → test (option_text o) ≡ passes → Found test picks (o ∷ os)
+        both true passes = (o, e, passes, rw (e, eq-bytes_eq (option_text o) (option_text o) refl) refl)
+        both false passes =
+            let found = rest (rw (e, passes) at any) in
+            (found.0, found.1, found.2, rw e (or_right (bytes_eq (option_text found.0) (option_text o)) _ found.3))
+
+flag_is : (os : List CommandOption) (word : Text) → is_one_of (names (λ o. not (has_value o)) os) word ≡ true → word ≡ flag_id
+flag_is os word takes =
+    let found = among (λ name. bytes_eq word name) (λ o. not (has_value o)) os takes in
+    bytes_eq-true word (option_text found.0) found.2 ∙ flag_option found.0 found.1
+
+named_among : (os : List CommandOption) (word : Text) → is_one_of (names has_value os) word ≡ true → (k : Named) × (word ≡ id_of k)
+named_among os word takes =
+    let found = among (λ name. bytes_eq word name) has_value os takes in
+    let named = named_option found.0 found.1 in
+    (named.0, bytes_eq-true word (option_text found.0) found.2 ∙ named.1)
+
+joined_among : (os : List CommandOption) (word : Text) → list_any (λ name. is_some (joined_value name word)) (names has_value os) ≡ true
+    → (k : Named) × (is_one_of (names has_value os) (id_of k) ≡ true) × (is_some (joined_value (id_of k) word) ≡ true)
+joined_among os word takes =
+    let found = among (λ name. is_some (joined_value name word)) has_value os takes in
+    let named = named_option found.0 found.1 in
+    let P : Text → Type 0 = λ text. (is_one_of (names has_value os) text ≡ true) × (is_some (joined_value text word) ≡ true) in
+    let parts = subst P named.1 (found.3, found.2) in
+    (named.0, parts.0, parts.1)
 
 -- what `clap` makes of the command's arguments
 abbrev known_rules : List Rule
@@ -103,20 +115,12 @@ words_by_name = refl
 no_defaults : list_all (λ rule. is_empty rule.defaults) known_rules ≡ true
 no_defaults = refl
 
--- the word joins a value to one of these options
-abbrev JoinsOne : List Text → Text → Type 0
-JoinsOne names word =
-    (k : Named) × (is_one_of names (id_of k) ≡ true) × (is_some (joined_value (id_of k) word) ≡ true)
-
-known : (f : Form) → IsKnown (form_of f) known_rules
+known : (f : CommandName) → IsKnown (form_of f) known_rules
 known f = record {
-  flags = flag_is f;
+  flags = flag_is (options_of f);
   by_flag = λ takes. flag_kept;
-  named = λ word any.
-      named_among (options_in f) word (subst (λ names. is_one_of names word ≡ true) (options_are f) any);
-  joined = λ word any.
-      subst (λ names. JoinsOne names word) (sym (options_are f)) (joined_among (options_in f) word
-      (subst (λ names. list_any (λ name. is_some (joined_value name word)) names ≡ true) (options_are f) any));
+  named = named_among (options_of f);
+  joined = joined_among (options_of f);
   by_long = λ k takes. (kept k).0;
   by_id = λ k takes. (kept k).1;
   words_by_index = words_by_place;
@@ -134,13 +138,13 @@ behind_is (word ∷ words) = refl
 matches_are : (all : List Text) → matches_of known_command all ≡ rows_after known_rules [] (behind all)
 matches_are all = ap (rows_after known_rules []) (behind_is all)
 
-all_taken : (f : Form) (words : List Text) → fits_form (form_of f) words ≡ true
+all_taken : (f : CommandName) (words : List Text) → fits_form (form_of f) words ≡ true
     → all_below (length words) (λ i. is_taken (role_at (form_of f) words i)) ≡ true
 unfolding fits_form
 all_taken f words fits = first_of_two _ _ (first_of_two _ _ (first_of_two _ _ (first_of_two _ _ fits)))
 
 -- the matches of words that fit
-pub is_found : (f : Form) (all : List Text) (m : ArgMatches) → fits_form (form_of f) (behind all) ≡ true
+pub is_found : (f : CommandName) (all : List Text) (m : ArgMatches) → fits_form (form_of f) (behind all) ≡ true
     → rows_of (found_of m) ≡ matches_of known_command all
     → IsFound (form_of f) (behind all) m
 is_found f all m fits rows =

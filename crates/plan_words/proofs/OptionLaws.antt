@@ -4,7 +4,7 @@ use Rattle.std.proofs.lemmas.Bool.Decides.{nat_tests}
 use Rattle.std.specs.Prelude.{codes, bytes_eq, is_some, slice_index, ◌&&◌, ◌==◌, nat_lt}
 use Rattle.plain_laws.specs.Plain.{when}
 use Rattle.plain_laws.proofs.Laws.{bytes_eq-true}
-use Rattle.feed_rows.specs.CommandWords.{is_dashed, joined_value}
+use Rattle.commands.specs.CommandWords.{is_dashed, joined_value}
 use Rattle.clap.specs.Lexer.{long_of, short_of}
 use Rattle.clap.specs.Simple.{filled, with_index}
 use Rattle.clap.specs.Walk.{Rule, Text}

@@ -1,19 +1,19 @@
 -- What the words of a plan ask for.
-use Rattle.std.proofs.Common.{◌≡◌, ◌≤◌, ◌⊎◌, inl, inr, ◌<◌, ℕ, suc, get_or, Bool, true, false, List, [], ◌∷◌, Option, Some, None, refl, sym, subst, ◌∙◌, ◌^◌, length, arith, w64, to_z, of_z}
+use Rattle.std.proofs.Common.{◌≡◌, ◌≤◌, ◌⊎◌, inl, inr, ◌<◌, ℕ, suc, get_or, Bool, true, false, List, [], ◌∷◌, Option, Some, None, refl, sym, ap, subst, ◌∙◌, ◌^◌, length, arith, w64, to_z, of_z}
 use Rattle.std.specs.Prelude.{Result, Ok, Err, ok_or, option_map, ℤ, pos, int_le, nat_le, ◌&&◌, codes, if◌then◌else◌}
 use Rattle.std.proofs.lemmas.Bool.Decides.{nat_tests}
 use Rattle.std.proofs.lemmas.Int.{ints, to_z-of_z}
 use Rattle.plain_laws.specs.Plain.{when}
 use Rattle.transit_base.specs.Moments.{moment_at}
-use Rattle.feed_rows.specs.CommandWords.{word_at, option_value, has_flag}
-use Rattle.feed_rows.specs.Commands.{read_plan}
+use Rattle.commands.specs.CommandWords.{word_at, option_value, has_flag}
+use Rattle.commands.specs.Commands.{last_day, read_audit, read_plan}
 use Rattle.feed_rows.specs.Limits.{usual_window, most_window}
 use Rattle.feed_rows.specs.Numerals.{number_value, within}
-use Rattle.feed_rows.specs.Requests.{Request}
-use Rattle.feed_rows.specs.UsageFaults.{unless_fault}
+use Rattle.commands.specs.Requests.{Request, Question}
+use Rattle.commands.specs.UsageFaults.{unless_fault}
 use Rattle.feed_rows.specs.WordValues.{word_number, word_date, word_time, option_number}
-use Rattle.feed_rows.specs.declared.usage.UsageFault.{UsageFault}
-use Rattle.feed_rows.specs.declared.usage.UsageFault.TheVariants as usage
+use Rattle.commands.specs.declared.usage.UsageFault.{UsageFault}
+use Rattle.commands.specs.declared.usage.UsageFault.TheVariants as usage
 use Rattle.feed_faults.specs.FieldGrammars.{int_value, is_negative, if_between}
 
 -- a value that is there, and one that isn't
@@ -33,7 +33,7 @@ module _ (named words : List (List ℕ)) where
   -- what is read behind the date, the time, the rides and the window
   abbrev behind_window : ℤ → ℕ → ℕ → ℕ → Result Request UsageFault
   behind_window day seconds rides window =
-      Ok (Request.Plan (record {
+      Ok (Request.Asks (Question.Plan (record {
         from = word_at named 0;
         to = word_at named 1;
         departure = moment_at day (pos seconds);
@@ -41,7 +41,7 @@ module _ (named words : List (List ℕ)) where
         rider = option_value words (codes "--rider");
         window = window;
         stats = has_flag words (codes "--stats");
-      }))
+      })))
 
   abbrev behind_rides : ℤ → ℕ → ℕ → Result Request UsageFault
   behind_rides day seconds rides = unless_fault (ok_or window_word usage.BadWindow) (behind_window day seconds rides)
@@ -73,13 +73,34 @@ module _ (named words : List (List ℕ)) where
       (stats : Bool) → Some day ≡ word_date (word_at named 2) → Some seconds ≡ word_time (word_at named 3)
       → Some rides ≡ rides_word → Some window ≡ window_word → from ≡ word_at named 0 → to ≡ word_at named 1 → departure ≡ moment_at day (pos seconds)
       → rider ≡ option_value words (codes "--rider") → stats ≡ has_flag words (codes "--stats")
-      → Ok (Request.Plan (record { from = from; to = to; departure = departure; rides = rides; rider = rider; window = window; stats = stats })) ≡ read_plan named words
+      → Ok (Request.Asks (Question.Plan (record { from = from; to = to; departure = departure; rides = rides; rider = rider; window = window; stats = stats }))) ≡ read_plan named words
   plan_read day departure seconds rides window from to rider stats date time rides_is window_is from_is to_is at rider_is stats_is =
       let read = to_rides day seconds date time ∙ given rides_word rides usage.BadRides (behind_rides day seconds) rides_is ∙ given window_word window usage.BadWindow (behind_window day seconds rides) window_is in
       let ok : Request → Result Request UsageFault = λ request. Ok request in
-      let same : ok (Request.Plan
-      (record { from = from; to = to; departure = departure; rides = rides; rider = rider; window = window; stats = stats })) ≡ behind_window day seconds rides window = rw (from_is, to_is, at, rider_is, stats_is) refl in
+      let same : ok (Request.Asks (Question.Plan
+      (record { from = from; to = to; departure = departure; rides = rides; rider = rider; window = window; stats = stats }))) ≡ behind_window day seconds rides window = rw (from_is, to_is, at, rider_is, stats_is) refl in
       same ∙ sym read
+
+module _ (named words : List (List ℕ)) where
+  -- what is read behind the two days
+  abbrev behind_last : ℤ → ℤ → Result Request UsageFault
+  behind_last first last = Ok (Request.Asks (Question.Audit (record { first = first; last = last; rider = option_value words (codes "--rider") })))
+
+  abbrev behind_first : ℤ → Result Request UsageFault
+  behind_first first = unless_fault (ok_or (last_day first (word_at named 1)) usage.BadLast) (behind_last first)
+
+  pub bad_first : None ≡ word_date (word_at named 0) → read_audit named words ≡ Err usage.BadFirst
+  bad_first date = missing (word_date (word_at named 0)) usage.BadFirst behind_first date
+
+  pub bad_last : (first : ℤ) → Some first ≡ word_date (word_at named 0) → None ≡ last_day first (word_at named 1) → read_audit named words ≡ Err usage.BadLast
+  bad_last first date past = given (word_date (word_at named 0)) first usage.BadFirst behind_first date ∙ missing (last_day first (word_at named 1)) usage.BadLast (behind_last first) past
+
+  pub audit_read : (first last : ℤ) (rider : Option (List ℕ)) → Some first ≡ word_date (word_at named 0) → Some last ≡ last_day first (word_at named 1) → rider ≡ option_value words (codes "--rider")
+      → Ok (Request.Asks (Question.Audit (record { first = first; last = last; rider = rider }))) ≡ read_audit named words
+  audit_read first last rider date near rider_is =
+      let read = given (word_date (word_at named 0)) first usage.BadFirst behind_first date ∙ given (last_day first (word_at named 1)) last usage.BadLast (behind_last first) near in
+      let ok : Option (List ℕ) → Result Request UsageFault = λ r. Ok (Request.Asks (Question.Audit (record { first = first; last = last; rider = r }))) in
+      ap ok rider_is ∙ sym read
 
 -- a number of words, as an integer without sign
 abbrev pub IsNumber : ℕ → ℕ → List ℕ → Type 0

@@ -5,10 +5,10 @@ use Rattle.std.proofs.lemmas.Bool.Decides.{nat_tests}
 use Rattle.plain_laws.specs.Plain.{collect_below, find_below, last_below}
 use Rattle.std.proofs.lemmas.Option.{slice_get_cases}
 use Rattle.plain_laws.proofs.Laws.{IsFirst, IsCollected, find_below_tells, find_below_some, collect_below_some, collect_below_tells}
-use Rattle.feed_rows.specs.CommandWords.{CommandForm, word_at, positional_words, fits_form}
-use Rattle.feed_rows.specs.NumberedItems.{read_at, read_each}
+use Rattle.commands.specs.CommandWords.{CommandForm, word_at, positional_words, fits_form}
+use Rattle.commands.specs.NumberedItems.{read_at, read_each}
 use Rattle.feed_rows.specs.RideWords.{RideWord, ride_word}
-use Rattle.feed_rows.specs.declared.usage.UsageFault.{UsageFault}
+use Rattle.commands.specs.declared.usage.UsageFault.{UsageFault}
 use Rattle.plan_words.specs.Rides.{rides_named}
 use Rattle.plan_words.proofs.OptionLaws.{both}
 use Rattle.plan_words.proofs.WordLaws.{word_there}

@@ -7,8 +7,8 @@ use Rattle.std.proofs.lemmas.List.Sums.{fold_more}
 use Rattle.std.proofs.lemmas.Bool.Decides.{nat_tests}
 use Rattle.plain_laws.specs.Plain.{all_below, joined_below, when}
 use Rattle.plain_laws.proofs.Laws.{all_below-at, bytes_eq-true, eq-bytes_eq, joined_below-picks, one_where}
-use Rattle.feed_rows.specs.CommandWords.{CommandForm, word_at, is_one_of, is_dashed, joined_value, follows_option, role_at, is_taken, is_positional, positional_words, value_at, option_value, has_flag}
-use Rattle.feed_rows.specs.declared.usage.WordRole.TheVariants as role
+use Rattle.commands.specs.CommandWords.{CommandForm, word_at, is_one_of, is_dashed, joined_value, follows_option, role_at, is_taken, is_positional, positional_words, value_at, option_value, has_flag}
+use Rattle.commands.specs.declared.usage.WordRole.TheVariants as role
 use Rattle.clap.specs.Lexer.{long_of}
 use Rattle.clap.specs.Simple.{filled}
 use Rattle.clap.specs.Walk.{Row, Rule, Text, Waiting, Walk, arg_by_id, arg_by_index, arg_by_long, default_rows, finished, first_of, idle, is_empty, is_pending, nothing_held, option, positional, reading_by, rows_after, settled_rows, walk_from, walked, with_default, has_row}

@@ -5,9 +5,9 @@ use Rattle.std.specs.List.{list_any}
 use Rattle.std.proofs.lemmas.Option.{slice_get-get_or}
 use Rattle.plain_laws.specs.Plain.{count_below, picks_below, all_below, any_below}
 use Rattle.plain_laws.proofs.Laws.{all_below-at}
-use Rattle.feed_rows.specs.CommandWords.{CommandForm, word_at, is_one_of, is_dashed, joined_value, follows_option, role_at}
-use Rattle.feed_rows.specs.declared.usage.WordRole.{WordRole}
-use Rattle.feed_rows.specs.declared.usage.WordRole.TheVariants as role
+use Rattle.commands.specs.CommandWords.{CommandForm, word_at, is_one_of, is_dashed, joined_value, follows_option, role_at}
+use Rattle.commands.specs.declared.usage.WordRole.{WordRole}
+use Rattle.commands.specs.declared.usage.WordRole.TheVariants as role
 use Rattle.plan_words.specs.Words.{behind}
 
 pub length_behind : (words : List (List ℕ)) → length (behind words) ≡ length words - 1

@@ -1,6 +1,6 @@
 -- Why words ask for nothing.
 use Rattle.std.specs.Prelude.{◌≡◌, Result, Err}
-use Rattle.feed_rows.specs.declared.usage.UsageFault.{UsageFault}
+use Rattle.commands.specs.declared.usage.UsageFault.{UsageFault}
 use Rattle.plan_words.specs.declared.error.WordsError.{WordsError}
 use Rattle.plan_words.specs.declared.error.WordsError.TheVariants as error
 

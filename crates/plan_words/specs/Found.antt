@@ -1,6 +1,6 @@
 -- What `clap` finds in the words of a command that fit its form.
 use Rattle.std.specs.Prelude.{◌≡◌, true, List, [], ◌∷◌, ℕ, Some, is_some, unwrap_or, option_map, codes}
-use Rattle.feed_rows.specs.CommandWords.{CommandForm, has_flag, is_one_of, positional_words, option_value}
+use Rattle.commands.specs.CommandWords.{CommandForm, has_flag, is_one_of, positional_words, option_value}
 use Rattle.clap.specs.Matches.{found_of, first_value, matched_of, raw_values}
 use Rattle.clap.specs.Simple.{App, new_app, new_rule, on_top, with_rule}
 use Rattle.clap.specs.Walk.{Rule}

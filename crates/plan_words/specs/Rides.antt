@@ -4,7 +4,7 @@ use Rattle.std.specs.Prelude.{◌≡◌, ℕ, ◌≤ℤ◌, ◌≤◌, List, [],
 use Rattle.std.specs.Borrow.{Bor}
 use Rattle.transit_base.specs.Limits.{most_time}
 use Rattle.plain_laws.specs.Plain.{collect_below}
-use Rattle.feed_rows.specs.NumberedItems.{read_at}
+use Rattle.commands.specs.NumberedItems.{read_at}
 use Rattle.feed_rows.specs.RideWords.{ride_word}
 use Rattle.feed_rows.specs.RideWords.{RideWord as NamedRide, RideParts as NamedParts}
 use Rattle.plan_words.specs.declared.rides.RideWord.{RideWord}

@@ -1,6 +1,6 @@
 //! Why words ask for nothing.
 
-use feed_rows::UsageFault;
+use commands::UsageFault;
 use std::alloc::AllocError;
 
 /// Why words ask for nothing.

@@ -5,13 +5,14 @@ ghost use Rattle.std.specs.Prelude.{◌≡◌, true, IfOk, is_some};
 ghost use Rattle.std.specs.Option.{option_copied};
 ghost use Rattle.clap.specs.Matches.{found_of, first_value};
 ghost use Rattle.clap.specs.Simple.{app_of, with_rule};
-ghost use Rattle.feed_rows.specs.CommandWords.{fits_form, word_at};
+ghost use Rattle.commands.specs.CommandWords.{fits_form, word_at};
 ghost use Rattle.plan_words.specs.Found.{flag_rule, option_rule, plain_command, with_all_rules, named_in, IsFound};
 ghost use Rattle.plan_words.specs.Rides.{texts_of};
-ghost use Rattle.plan_words.specs.Words.{behind, form_of};
+ghost use Rattle.commands.specs.Table.{form_of, option_text};
+ghost use Rattle.plan_words.specs.Words.{behind};
 
-use crate::grammar::Form;
 use clap::{Arg, ArgAction, ArgMatches, Command};
+use commands::{CommandName, CommandOption};
 use plan_arguments::WordList;
 use std::alloc::{AllocError, Global};
 
@@ -81,19 +82,19 @@ fn with_all_options<'a>(command: Command<'a>, alloc: Global) -> Result<Command<'
 ///
 /// # Errors
 /// Want of memory; also where `clap` refuses the words.
-pub(crate) fn found_in(form: Form, words: &WordList) -> Result<ArgMatches<'_>, AllocError>
-    requires { fits_form (form_of form) (behind words.now) ≡ true }
-    ensures { IfOk result (IsFound (form_of form) (behind words.now)) }
+pub(crate) fn found_in(command: CommandName, words: &WordList) -> Result<ArgMatches<'_>, AllocError>
+    requires { fits_form (form_of command) (behind words.now) ≡ true }
+    ensures { IfOk result (IsFound (form_of command) (behind words.now)) }
 {
-    let command = match plain_command(words.alloc()) {
-        Ok(command) => command,
+    let known = match plain_command(words.alloc()) {
+        Ok(plain) => plain,
         Err(AllocError) => return Err(AllocError),
     };
-    let command = match with_all_options(command, words.alloc()) {
-        Ok(command) => command,
+    let known = match with_all_options(known, words.alloc()) {
+        Ok(known) => known,
         Err(AllocError) => return Err(AllocError),
     };
-    match command.try_get_matches_from(words.as_slice()) {
+    match known.try_get_matches_from(words.as_slice()) {
         Ok(found) => Ok(found),
         Err(_) => Err(AllocError),
     }
@@ -130,18 +131,18 @@ pub(crate) fn all_named<'a>(
 }
 
 /// The value of an option that was found.
-pub(crate) fn value_of<'a>(found: &ArgMatches<'a>, option: &str) -> Option<&'a [u8]>
-    ensures { option_copied result ≡ first_value (found_of found.now) option.now }
+pub(crate) fn value_of<'a>(found: &ArgMatches<'a>, option: CommandOption) -> Option<&'a [u8]>
+    ensures { option_copied result ≡ first_value (found_of found.now) (option_text option) }
 {
-    match found.get_str(option) {
+    match found.get_str(option.text()) {
         Some(value) => Some(value.as_bytes()),
         None => None,
     }
 }
 
 /// Whether a flag was found.
-pub(crate) fn is_set(found: &ArgMatches, flag: &str) -> bool
-    ensures { result ≡ is_some (first_value (found_of found.now) flag.now) }
+pub(crate) fn is_set(found: &ArgMatches, flag: CommandOption) -> bool
+    ensures { result ≡ is_some (first_value (found_of found.now) (option_text flag)) }
 {
-    found.get_str(flag).is_some()
+    found.get_str(flag.text()).is_some()
 }

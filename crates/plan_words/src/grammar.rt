@@ -1,229 +1,219 @@
 //! The grammar of the words behind a command: options with values, flags and positional words, in any order.
-ghost use Rattle.std.specs.Prelude.{◌≡◌, ◌<◌, if◌then◌else◌, length, is_some, [], ◌∷◌, bytes_eq, codes};
+ghost use Rattle.std.specs.Prelude.{◌≡◌, ◌<◌, if◌then◌else◌, length, is_some, [], ◌∷◌, ◌&&◌, ◌||◌, nat_le, not, bytes_eq, codes, count_by, IfOk};
 ghost use Rattle.std.specs.List.{list_any, list_all};
 ghost use Rattle.std.specs.Option.{option_copied};
-ghost use Rattle.plain_laws.specs.Plain.{all_below, count_below};
-ghost use Rattle.feed_rows.specs.CommandWords.{is_one_of, is_dashed, joined_value, follows_option, role_at, is_taken, is_positional, positional_words, value_at, is_single_flag, is_single_option, fits_form, word_at};
-ghost use Rattle.plan_words.specs.Words.{behind};
+ghost use Rattle.plain_laws.specs.Plain.{count_below};
+ghost use Rattle.commands.specs.CommandWords.{is_one_of, is_dashed, joined_value, follows_option, role_at, is_taken, is_positional, value_at, is_single_flag, is_single_option, fits_form, word_at};
+ghost use Rattle.commands.specs.Table.{form_of, has_value, option_text};
+ghost use Rattle.plan_words.specs.Words.{behind, roles_below};
 
 use crate::words::{count_behind, word_behind};
-use feed_rows::{MOST_RIDES, WordRole};
+use commands::{CommandName, CommandOption, WordRole};
 use plan_arguments::WordList;
+use std::alloc::AllocError;
 
-/// The words that a command takes behind its name.
-#[derive(Clone, Copy)]
-pub(crate) enum Form {
-    /// `FROM TO DATE TIME [--rides N] [--rider ID] [--within SECONDS] [--stats]`
-    Plan,
-    /// `[--rider ID] RIDE ..`, one to eight rides
-    Price,
-    /// None.
-    Check,
-    /// `SEED LINES`
-    Gen,
+// Whether the word is the name of the option, which has a value.
+fn names_option(option: CommandOption, word: &str) -> bool
+    ensures { result ≡ (has_value option && bytes_eq word.now (option_text option)) }
+{
+    option.has_value() && word == option.text()
 }
 
-impl Form {
-    ghost use Rattle.plan_words.specs.Words.{form_of};
+// Whether the word is the name of an option of the command.
+fn is_option(command: CommandName, word: &str) -> bool
+    ensures { result ≡ is_one_of (form_of command).options word.now }
+{
+    command
+        .options()
+        .iter()
+        .any(|option| names_option(*option, word))
+}
 
-    // Whether the word is the name of an option.
-    fn is_option(self, word: &str) -> bool
-        ensures { result ≡ is_one_of (form_of self).options word.now }
-    {
-        match self {
-            Form::Plan => word == "--rides" || word == "--rider" || word == "--within",
-            Form::Price => word == "--rider",
-            Form::Check | Form::Gen => false,
-        }
+// Whether the word is the name of the option with its value behind `=`.
+fn joins_option(option: CommandOption, word: &str) -> bool
+    ensures { result ≡ (has_value option && is_some (joined_value (option_text option) word.now)) }
+{
+    option.has_value() && joined_value(option.text(), word).is_some()
+}
+
+// Whether the word is the name of an option of the command with its value behind `=`.
+fn is_joined(command: CommandName, word: &str) -> bool
+    ensures { result ≡ list_any (λ option. is_some (joined_value option word.now)) (form_of command).options }
+{
+    command
+        .options()
+        .iter()
+        .any(|option| joins_option(*option, word))
+}
+
+// Whether the word is the flag.
+fn names_flag(option: CommandOption, word: &str) -> bool
+    ensures { result ≡ (not (has_value option) && bytes_eq word.now (option_text option)) }
+{
+    !option.has_value() && word == option.text()
+}
+
+// Whether the word is a flag of the command.
+fn is_flag(command: CommandName, word: &str) -> bool
+    ensures { result ≡ is_one_of (form_of command).flags word.now }
+{
+    command
+        .options()
+        .iter()
+        .any(|option| names_flag(*option, word))
+}
+
+// Whether the option stands at most once, where it has a value.
+fn is_single_option(option: CommandOption, words: &WordList) -> bool
+    ensures { result ≡ (not (has_value option) || is_single_option (behind words.now) (option_text option)) }
+{
+    !option.has_value() || count_values(words, option.text()) <= 1
+}
+
+// Whether each option of the command stands at most once among the words behind it.
+fn has_single_options(command: CommandName, words: &WordList) -> bool
+    ensures { result ≡ list_all (is_single_option (behind words.now)) (form_of command).options }
+{
+    command
+        .options()
+        .iter()
+        .all(|option| is_single_option(*option, words))
+}
+
+// Whether the flag stands at most once, where it is one.
+fn is_single_flag(option: CommandOption, words: &WordList) -> bool
+    ensures { result ≡ (has_value option || is_single_flag (behind words.now) (option_text option)) }
+{
+    option.has_value() || count_uses(words, option.text()) <= 1
+}
+
+// Whether each flag of the command stands at most once among the words behind it.
+fn has_single_flags(command: CommandName, words: &WordList) -> bool
+    ensures { result ≡ list_all (is_single_flag (behind words.now)) (form_of command).flags }
+{
+    command
+        .options()
+        .iter()
+        .all(|option| is_single_flag(*option, words))
+}
+
+// What the word of that number behind the command is.
+#[tactic(auto, unfolding(commands::specs::CommandWords::role_at))]
+fn role_at(command: CommandName, words: &WordList, i: usize) -> WordRole
+    requires { i < length (behind words.now) }
+    ensures { result ≡ role_at (form_of command) (behind words.now) i }
+{
+    let word = word_behind(words, i);
+    if is_never_taken(word) {
+        return WordRole::Refused;
     }
-
-    // Whether the word is the name of an option with its value behind `=`.
-    fn is_joined(self, word: &str) -> bool
-        ensures { result ≡ list_any (λ option. is_some (joined_value option word.now)) (form_of self).options }
-    {
-        match self {
-            Form::Plan => {
-                joined_value("--rides", word).is_some()
-                    || joined_value("--rider", word).is_some()
-                    || joined_value("--within", word).is_some()
-            }
-            Form::Price => joined_value("--rider", word).is_some(),
-            Form::Check | Form::Gen => false,
-        }
+    if follows_option(command, words, i) {
+        return role_of_value(word);
     }
-
-    // Whether the word is a flag.
-    fn is_flag(self, word: &str) -> bool
-        ensures { result ≡ is_one_of (form_of self).flags word.now }
-    {
-        match self {
-            Form::Plan => word == "--stats",
-            Form::Price | Form::Check | Form::Gen => false,
-        }
-    }
-
-    // Whether each option stands at most once among the words behind the command.
-    fn has_single_options(self, words: &WordList) -> bool
-        ensures { result ≡ list_all (is_single_option (behind words.now)) (form_of self).options }
-    {
-        match self {
-            Form::Plan => {
-                is_single(words, "--rides")
-                    && is_single(words, "--rider")
-                    && is_single(words, "--within")
-            }
-            Form::Price => is_single(words, "--rider"),
-            Form::Check | Form::Gen => true,
-        }
-    }
-
-    // Whether each flag stands at most once among the words behind the command.
-    fn has_single_flags(self, words: &WordList) -> bool
-        ensures { result ≡ list_all (is_single_flag (behind words.now)) (form_of self).flags }
-    {
-        match self {
-            Form::Plan => count_uses(words, "--stats") <= 1,
-            Form::Price | Form::Check | Form::Gen => true,
-        }
-    }
-
-    // The least number of positional words.
-    fn fewest(self) -> usize
-        ensures { result ≡ (form_of self).fewest }
-    {
-        match self {
-            Form::Plan => 4,
-            Form::Price => 1,
-            Form::Check => 0,
-            Form::Gen => 2,
-        }
-    }
-
-    // The greatest number of positional words.
-    fn most(self) -> usize
-        ensures { result ≡ (form_of self).most }
-    {
-        match self {
-            Form::Plan => 4,
-            Form::Price => MOST_RIDES as usize,
-            Form::Check => 0,
-            Form::Gen => 2,
-        }
-    }
-
-    // What the word of that number behind the command is.
-    #[tactic(auto, unfolding(feed_rows::specs::CommandWords::role_at))]
-    fn role_at(self, words: &WordList, i: usize) -> WordRole
-        requires { i < length (behind words.now) }
-        ensures { result ≡ role_at (form_of self) (behind words.now) i }
-    {
-        let word = word_behind(words, i);
-        if is_never_taken(word) {
-            return WordRole::Refused;
-        }
-        if self.follows_option(words, i) {
-            return role_of_value(word);
-        }
-        if self.is_option(word) {
-            return if count_behind(words) > i + 1 {
-                WordRole::OptionName
-            } else {
-                WordRole::Refused
-            };
-        }
-        if self.is_joined(word) {
-            return WordRole::OptionWithValue;
-        }
-        if self.is_flag(word) {
-            return WordRole::Flag;
-        }
-        if is_dashed(word) {
-            WordRole::Refused
+    if is_option(command, word) {
+        return if count_behind(words) > i + 1 {
+            WordRole::OptionName
         } else {
-            WordRole::Positional
-        }
+            WordRole::Refused
+        };
     }
+    if is_joined(command, word) {
+        return WordRole::OptionWithValue;
+    }
+    if is_flag(command, word) {
+        return WordRole::Flag;
+    }
+    if is_dashed(word) {
+        WordRole::Refused
+    } else {
+        WordRole::Positional
+    }
+}
 
-    // Whether the word before the one of that number names an option.
-    fn follows_option(self, words: &WordList, i: usize) -> bool
-        requires { i < length (behind words.now) }
-        ensures { result ≡ follows_option (form_of self) (behind words.now) i }
-    {
-        i > 0 && self.is_option(word_behind(words, i - 1))
-    }
+// Whether the word before the one of that number names an option.
+fn follows_option(command: CommandName, words: &WordList, i: usize) -> bool
+    requires { i < length (behind words.now) }
+    ensures { result ≡ follows_option (form_of command) (behind words.now) i }
+{
+    i > 0 && is_option(command, word_behind(words, i - 1))
+}
 
-    // Whether the word of that number is positional.
-    fn is_positional(self, words: &WordList, i: usize) -> bool
-        requires { i < length (behind words.now) }
-        ensures { result ≡ is_positional (role_at (form_of self) (behind words.now) i) }
-    {
-        match self.role_at(words, i) {
-            WordRole::Positional => true,
-            WordRole::OptionName
-            | WordRole::OptionValue
-            | WordRole::OptionWithValue
-            | WordRole::Flag
-            | WordRole::Refused => false,
-        }
+// What each word behind the command is.
+fn roles_of(command: CommandName, words: &WordList) -> Result<Vec<WordRole>, AllocError>
+    ensures { IfOk result (λ roles. roles.items ≡ roles_below (form_of command) (behind words.now) (length (behind words.now))) }
+{
+    let mut roles = Vec::new(words.alloc());
+    for i in 0..count_behind(words) {
+        roles.push(role_at(command, words, i))?;
     }
+    Ok(roles)
+}
 
-    // Whether the command takes the word of that number.
-    fn is_taken(self, words: &WordList, i: usize) -> bool
-        requires { i < length (behind words.now) }
-        ensures { result ≡ is_taken (role_at (form_of self) (behind words.now) i) }
-    {
-        match self.role_at(words, i) {
-            WordRole::Refused => false,
-            WordRole::OptionName
-            | WordRole::OptionValue
-            | WordRole::OptionWithValue
-            | WordRole::Flag
-            | WordRole::Positional => true,
-        }
+// Whether a word with this role is positional.
+fn is_positional(role: WordRole) -> bool
+    ensures { result ≡ is_positional role }
+{
+    match role {
+        WordRole::Positional => true,
+        WordRole::OptionName
+        | WordRole::OptionValue
+        | WordRole::OptionWithValue
+        | WordRole::Flag
+        | WordRole::Refused => false,
     }
+}
 
-    // Whether the command takes each word.
-    #[tactic(auto, using(crate::proofs::WordLaws::all_below_next, crate::proofs::WordLaws::all_below_fails))]
-    fn are_taken(self, words: &WordList) -> bool
-        ensures { result ≡ all_below (length (behind words.now)) (λ i. is_taken (role_at (form_of self) (behind words.now) i)) }
-    {
-        for i in 0..count_behind(words) {
-            if !self.is_taken(words, i) {
-                return false;
-            }
-        }
-        true
+// Whether a word with this role is taken.
+fn is_taken(role: WordRole) -> bool
+    ensures { result ≡ is_taken role }
+{
+    match role {
+        WordRole::Refused => false,
+        WordRole::OptionName
+        | WordRole::OptionValue
+        | WordRole::OptionWithValue
+        | WordRole::Flag
+        | WordRole::Positional => true,
     }
+}
 
-    // How many words are positional.
-    #[tactic(auto, using(crate::proofs::WordLaws::picks_next))]
-    fn count_positional(self, words: &WordList) -> usize
-        ensures { result ≡ length (positional_words (form_of self) (behind words.now)) }
-    {
-        let mut count = 0;
-        for i in 0..count_behind(words) {
-            if self.is_positional(words, i) {
-                count += 1;
-            }
-        }
-        count
-    }
+// Whether words with these roles are all taken.
+fn are_taken(roles: &[WordRole]) -> bool
+    ensures { result ≡ list_all is_taken roles.now }
+{
+    roles.iter().all(|role| is_taken(*role))
+}
 
-    /// Whether the words behind the command are such as it takes, each option at most once, with as many positional words as
-    /// it asks for.
-    #[tactic(auto, unfolding(feed_rows::specs::CommandWords::fits_form))]
-    pub(crate) fn fits(self, words: &WordList) -> bool
-        ensures { result ≡ fits_form (form_of self) (behind words.now) }
+// How many words with these roles are positional.
+fn count_positional(roles: &[WordRole]) -> usize
+    ensures { result ≡ count_by is_positional roles.now }
+{
+    roles.iter().filter(|role| is_positional(**role)).count()
+}
+
+// Whether the command takes so many positional words.
+fn takes_so_many(command: CommandName, count: usize) -> bool
+    ensures { result ≡ (nat_le (form_of command).fewest count && nat_le count (form_of command).most) }
+{
+    command.fewest() <= count && count <= command.most()
+}
+
+/// Whether the words behind the command are such as it takes, each option at most once, with as many positional words as
+/// it asks for.
+///
+/// # Errors
+/// Want of memory.
+pub(crate) fn fits(command: CommandName, words: &WordList) -> Result<bool, AllocError>
+    ensures { IfOk result (λ fits. fits ≡ fits_form (form_of command) (behind words.now)) }
+{
+    let roles = roles_of(command, words)?;
+    if !are_taken(&roles)
+        || !has_single_options(command, words)
+        || !has_single_flags(command, words)
     {
-        if !self.are_taken(words)
-            || !self.has_single_options(words)
-            || !self.has_single_flags(words)
-        {
-            return false;
-        }
-        let count = self.count_positional(words);
-        self.fewest() <= count && count <= self.most()
+        return Ok(false);
     }
+    Ok(takes_so_many(command, count_positional(&roles)))
 }
 
 // Whether no command takes the word.
@@ -269,7 +259,7 @@ fn joined_value<'a>(option: &str, word: &'a str) -> Option<&'a [u8]>
 
 // The value that the word of that number gives to the option: the next word after `--name`, or what stands behind
 // `--name=`.
-#[tactic(auto, using(crate::proofs::WordLaws::word_there, crate::proofs::WordLaws::no_word), unfolding(feed_rows::specs::CommandWords::value_at))]
+#[tactic(auto, using(crate::proofs::WordLaws::word_there, crate::proofs::WordLaws::no_word), unfolding(commands::specs::CommandWords::value_at))]
 fn value_at<'a>(words: &'a WordList, option: &str, i: usize) -> Option<&'a [u8]>
     requires { i < length (behind words.now) }
     ensures { option_copied result ≡ value_at (behind words.now) option.now i }
@@ -282,13 +272,6 @@ fn value_at<'a>(words: &'a WordList, option: &str, i: usize) -> Option<&'a [u8]>
     } else {
         None
     }
-}
-
-// Whether the option stands at most once.
-fn is_single(words: &WordList, option: &str) -> bool
-    ensures { result ≡ is_single_option (behind words.now) option.now }
-{
-    count_values(words, option) <= 1
 }
 
 // How often a value is given to the option.

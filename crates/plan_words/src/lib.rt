@@ -11,5 +11,7 @@ mod words;
 
 pub use error::WordsError;
 pub use plan_arguments::WordList;
-pub use request::{CommandWords, GenWords, PlanWords, PriceWords, read_command};
+pub use request::{
+    AuditWords, CommandWords, GenWords, PlanWords, PriceWords, Question, read_command,
+};
 pub use rides::{RideWord, RideWords};

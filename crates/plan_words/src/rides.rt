@@ -2,15 +2,15 @@
 ghost use Rattle.std.specs.Prelude.{◌≡◌, ◌<◌, ◌≤◌, IfOk, IfSome, Ok, Some, is_none, length, option_map, slice_get};
 ghost use Rattle.plain_laws.specs.Plain.{find_below};
 ghost use Rattle.feed_rows.specs.Limits.{most_rides};
-ghost use Rattle.feed_rows.specs.CommandWords.{word_at};
-ghost use Rattle.feed_rows.specs.NumberedItems.{read_at, read_each};
+ghost use Rattle.commands.specs.CommandWords.{word_at};
+ghost use Rattle.commands.specs.NumberedItems.{read_at, read_each};
 ghost use Rattle.feed_rows.specs.RideWords.{comma_before, ride_parts, sequence_value, ride_word};
-ghost use Rattle.feed_rows.specs.UsageFaults.{unless_fault};
-ghost use Rattle.feed_rows.specs.declared.usage.UsageFault.TheVariants as usage;
+ghost use Rattle.commands.specs.UsageFaults.{unless_fault};
+ghost use Rattle.commands.specs.declared.usage.UsageFault.TheVariants as usage;
 ghost use Rattle.plan_words.specs.Rides.{ride_of, parts_of, texts_of, rides_of, IsUsualRide, AreUsualRides};
 
 use crate::values::{date_in, number_in};
-use feed_rows::UsageFault;
+use commands::UsageFault;
 use feed_text::start_in;
 use transit_base::Day;
 

@@ -1,7 +1,8 @@
 //! What words say of numbers and dates.
-ghost use Rattle.std.specs.Prelude.{◌≡◌, ◌≤◌, ◌≤ℤ◌, pos, negsuc, IfSome, option_map};
+ghost use Rattle.std.specs.Prelude.{◌≡◌, ◌≤◌, ◌≤ℤ◌, ◌+ℤ◌, pos, negsuc, IfSome, option_map};
 ghost use Rattle.std.specs.Option.{option_copied};
 ghost use Rattle.feed_rows.specs.Numerals.{within};
+ghost use Rattle.commands.specs.Commands.{last_day};
 ghost use Rattle.feed_rows.specs.WordValues.{word_date, word_number, option_number};
 
 use feed_text::{day_of_parts, int_of};
@@ -21,6 +22,22 @@ pub(crate) fn date_in(text: &[u8]) -> Option<Day>
         return None;
     }
     Some(day)
+}
+
+/// The day of that form which is no earlier than the first, and at most 365 days later.
+pub(crate) fn last_in(first: Day, text: &[u8]) -> Option<Day>
+    requires low { negsuc 25_566 ≤ℤ first.0 }
+    requires high { first.0 ≤ℤ pos 376_199 }
+    ensures value { option_map (λ d. d.0) result ≡ last_day first.0 text.now }
+    ensures low { IfSome result (λ d. first.0 ≤ℤ d.0) }
+    ensures high { IfSome result (λ d. d.0 ≤ℤ pos 376_199) }
+    ensures near { IfSome result (λ d. d.0 ≤ℤ (first.0 +ℤ pos 365)) }
+{
+    let last = date_in(text)?;
+    if last.0 < first.0 || last.0 > first.0 + 365 {
+        return None;
+    }
+    Some(last)
 }
 
 /// The number of one to ten digits, from `least` to `most`.

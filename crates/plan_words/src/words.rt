@@ -1,6 +1,6 @@
 //! The words of a command behind the first, which names it.
 ghost use Rattle.std.specs.Prelude.{◌≡◌, ◌<◌, length};
-ghost use Rattle.feed_rows.specs.CommandWords.{word_at};
+ghost use Rattle.commands.specs.CommandWords.{word_at};
 ghost use Rattle.plan_words.specs.Words.{behind};
 
 use plan_arguments::WordList;

@@ -6,4 +6,4 @@ mod cache;
 mod rides;
 
 pub use cache::{Cache, unfilled};
-pub use rides::{RideCache, is_same_network, mixed};
+pub use rides::{RideCache, is_same_network, mixed, second_of};

@@ -88,7 +88,7 @@ pub fn mixed(a: u32, b: u32) -> u32 {
 }
 
 /// A moment, as a small number.
-fn second_of(moment: Moment) -> u32 {
+pub fn second_of(moment: Moment) -> u32 {
     (moment.0.unsigned_abs() % (1 << 32)) as u32
 }
 

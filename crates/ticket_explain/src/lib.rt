@@ -1,6 +1,7 @@
 //! The printed text of an answer: the lines of journeys, of their walks and rides, and of their tickets.
 #![tactic(auto)]
 
+mod audits;
 mod entries;
 mod field;
 mod generated;
@@ -12,6 +13,7 @@ mod text;
 mod tickets;
 mod travel;
 
+pub use audits::audit_lines_of;
 pub use entries::text_of;
 pub use field::Field;
 pub use generated::gen_lines_of;

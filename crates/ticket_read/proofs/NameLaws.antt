@@ -13,8 +13,8 @@ use Rattle.transit_base.specs.declared.numbers.TripId.{TripId}
 use Rattle.feed_rows.specs.FeedRows.{FeedRows}
 use Rattle.feed_rows.specs.Calls.{calls_of, trip_stop_times, first_departure}
 use Rattle.feed_rows.specs.EntryText.{stop_text, start_text}
-use Rattle.feed_rows.specs.PriceQueries.{call_position}
-use Rattle.feed_rows.specs.Queries.{find_stop, has_stop_id, find_trip, has_trip_id}
+use Rattle.feed_rows.specs.RowsById.{call_position}
+use Rattle.feed_rows.specs.RowsById.{find_stop, has_stop_id, find_trip, has_trip_id}
 use Rattle.feed_rows.specs.RideWords.{start_value}
 use Rattle.feed_rows.specs.Shifts.{has_frequencies, is_shift}
 use Rattle.feed_rows.specs.SoundFeed.{IsSoundFeed}

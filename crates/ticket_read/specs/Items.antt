@@ -7,8 +7,8 @@ use Rattle.feed_rows.specs.declared.journeys.Ride.{Ride}
 use Rattle.feed_rows.specs.FeedRows.{FeedRows}
 use Rattle.feed_rows.specs.Calls.{first_departure}
 use Rattle.feed_rows.specs.Numerals.{number_value}
-use Rattle.feed_rows.specs.PriceQueries.{call_position}
-use Rattle.feed_rows.specs.Queries.{find_stop, find_trip}
+use Rattle.feed_rows.specs.RowsById.{call_position}
+use Rattle.feed_rows.specs.RowsById.{find_stop, find_trip}
 use Rattle.feed_rows.specs.Rides.{ride_facts}
 use Rattle.feed_rows.specs.RideWords.{start_value}
 use Rattle.feed_rows.specs.WordValues.{day_value}

@@ -2,7 +2,7 @@
 ghost use Rattle.std.specs.Prelude.{◌≡◌, ◌<◌, ◌≤◌, map, pos, IfOk, IfSome, length, option_map};
 ghost use Rattle.transit_base.specs.Limits.{most_time};
 ghost use Rattle.feed_rows.specs.Rides.{ride_facts};
-ghost use Rattle.feed_rows.specs.Queries.{find_trip};
+ghost use Rattle.feed_rows.specs.RowsById.{find_trip};
 ghost use Rattle.ticket_read.specs.Cuts.{field, fields_in};
 ghost use Rattle.ticket_read.specs.Items.{number_in, row_in, day_in, shift_by, place_in, stop_in, run_of, ride_of, ride_item, walk_item, stay_item, leg_item, change_row, change_item, item_of};
 
@@ -48,7 +48,7 @@ fn day_in(text: &[u8]) -> Option<Day>
 }
 
 // The trip with this id.
-#[tactic(auto, using(feed_laws::proofs::PriceQueryLaws::trip_within))]
+#[tactic(auto, using(feed_laws::proofs::RowIdLaws::trip_within))]
 fn trip_in(timetable: &Timetable, id: &[u8]) -> Option<TripId>
     ensures value { result ≡ find_trip timetable.now id.now }
     ensures within { IfSome result (λ trip. trip.0 < length timetable.now.trips) }

@@ -2,15 +2,16 @@
 ghost use Rattle.std.specs.Prelude.{◌≡◌, ◌<◌, ◌≤◌, ◌++◌, ◌∷◌, [], Ok, IfOk, IfErr, IfSome, OnOk, length};
 ghost use Rattle.feed_rows.specs.Limits.{most_rides};
 ghost use Rattle.feed_rows.specs.Journeys.{is_caught};
-ghost use Rattle.feed_rows.specs.PriceQueries.{named_rides, first_missed, price_query_of};
+ghost use Rattle.commands.specs.PriceQueries.{named_rides, first_missed, price_query_of};
 ghost use Rattle.feed_rows.specs.StopLinks.{link};
 ghost use Rattle.plan_words.specs.Request.{price_request};
 ghost use Rattle.plan_words.specs.Rides.{rides_of as words_of, AreUsualRides};
 ghost use Rattle.command_answers.specs.NamedRides.{rides_of, AreKnown, named_query, IsErrorOf};
 
 use crate::ride_prices::rides::{NamedRide, named_ride};
-use fare_products::chosen_rider;
-use feed_rows::{Buyer, UsageFault};
+use crate::riders::chosen_buyer;
+use commands::UsageFault;
+use feed_rows::Buyer;
 use feed_timetable::Timetable;
 use plan_words::{PriceWords, RideWords, WordsError};
 use std::alloc::{AllocError, Global};
@@ -99,11 +100,8 @@ pub fn price_query_of(
     if let Some(i) = first_missed(timetable, rides.as_slice()) {
         return Err(WordsError::Usage(UsageFault::NoChange(i as u32 + 1)));
     }
-    match chosen_rider(timetable.feed(), words.rider) {
-        Ok(rider) => Ok(PriceQuery {
-            rides,
-            buyer: Buyer { rider },
-        }),
+    match chosen_buyer(timetable.feed(), words.rider) {
+        Ok(buyer) => Ok(PriceQuery { rides, buyer }),
         Err(fault) => Err(WordsError::Usage(fault)),
     }
 }

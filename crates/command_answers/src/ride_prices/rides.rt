@@ -1,8 +1,8 @@
 //! The ride that a word names.
 ghost use Rattle.std.specs.Prelude.{◌≡◌, ◌<◌, ◌≤◌, ◌≤ℤ◌, length, pos, negsuc, IfSome, option_map, Some};
 ghost use Rattle.feed_rows.specs.Limits.{least_shift, most_shift};
-ghost use Rattle.feed_rows.specs.PriceQueries.{named_shift, named_ride};
-ghost use Rattle.feed_rows.specs.Queries.{find_trip};
+ghost use Rattle.commands.specs.PriceQueries.{named_shift, named_ride};
+ghost use Rattle.feed_rows.specs.RowsById.{find_trip};
 ghost use Rattle.feed_rows.specs.Rides.{is_ride, ride_facts};
 ghost use Rattle.plain_laws.specs.Plain.{when};
 ghost use Rattle.plan_words.specs.Rides.{ride_of, IsUsualRide};
@@ -21,7 +21,7 @@ pub struct NamedRide {
 }
 
 // The trip with this id.
-#[tactic(auto, using(feed_laws::proofs::PriceQueryLaws::trip_within))]
+#[tactic(auto, using(feed_laws::proofs::RowIdLaws::trip_within))]
 fn find_trip(timetable: &Timetable, id: &[u8]) -> Option<TripId>
     ensures value { result ≡ find_trip timetable.now id.now }
     ensures within { IfSome result (λ trip. trip.0 < length timetable.now.trips) }
@@ -65,7 +65,7 @@ fn known_ride(timetable: &Timetable, ride: Ride) -> Option<NamedRide>
 }
 
 /// The ride that a word names. None exactly where it names no ride of the feed.
-#[tactic(auto, unfolding(feed_rows::specs::PriceQueries::named_ride))]
+#[tactic(auto, unfolding(commands::specs::PriceQueries::named_ride))]
 pub fn named_ride(timetable: &Timetable, word: &RideWord) -> Option<NamedRide>
     requires { IsUsualRide word.now }
     ensures value { option_map (λ named. named.ride) result ≡ named_ride timetable.now (ride_of word.now) }

@@ -11,6 +11,7 @@ returns c =
       calendar = c.requires;
       cuts = c.in_ok-cuts.ensures;
       areas = c.in_ok-areas.ensures;
+      likes = c.in_ok-likes.ensures;
       count = rw (← c.feed.view_is) c.items.ensures.len;
       rises = rows.rises;
       has = rw (← c.feed.view_is) (group_has _ _ _ _ c.feed.invariant.timeframes c.items-2.ensures.value c.items.ensures.len rows);

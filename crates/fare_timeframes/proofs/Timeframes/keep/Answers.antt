@@ -8,6 +8,7 @@ returns c = λ feed are.
       calendar = are.calendar;
       cuts = are.cuts;
       areas = are.areas;
+      likes = are.likes;
       count = are.count;
       rises = are.rises;
       has = are.has;

@@ -1,6 +1,6 @@
 use Rattle.std.proofs.Common.{◌∙◌, ap, ℕ, List, ◌++◌, ◌∷◌, []}
 use Rattle.std.specs.Prelude.{is_some}
-use Rattle.feed_rows.specs.CommandTexts.{stats_line}
+use Rattle.commands.specs.CommandTexts.{stats_line}
 use Rattle.feed_rows.specs.EntryText.{lines_of_entries}
 use Rattle.round_table.specs.Tables.{table_by}
 use Rattle.plan_app.proofs.MadeLaws.{table_lines}

@@ -8,4 +8,4 @@ pub returns-in-Ok-try_get_matches_from : goal.returns-in-Ok-try_get_matches_from
 returns-in-Ok-try_get_matches_from c =
     let known = c.in-Ok-with_all_options.ensures ∙ ap with_all_rules c.in-Ok.ensures in
     let matches = c.in-Ok-try_get_matches_from.ensures.matches (ap is_simple known ∙ simple) in
-    is_found c.args.form c.args.words.now c.in-Ok-try_get_matches_from.found c.requires (matches.0 ∙ ap₂ matches_of known c.as_slice.ensures)
+    is_found c.args.command c.args.words.now c.in-Ok-try_get_matches_from.found c.requires (matches.0 ∙ ap₂ matches_of known c.as_slice.ensures)

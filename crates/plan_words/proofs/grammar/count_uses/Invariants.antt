@@ -1,7 +1,7 @@
 use Rattle.std.proofs.Common.{◌≡◌, ◌≤◌}
 use Rattle.std.specs.Prelude.{bytes_eq}
 use Rattle.plain_laws.specs.Plain.{count_below}
-use Rattle.feed_rows.specs.CommandWords.{word_at}
+use Rattle.commands.specs.CommandWords.{word_at}
 use Rattle.plan_words.specs.Words.{behind}
 use Rattle.plan_words.proofs.grammar.count_uses.Given as goal
 

@@ -1,7 +1,7 @@
 use Rattle.std.proofs.Common.{◌≡◌, ◌≤◌}
 use Rattle.std.specs.Prelude.{is_some}
 use Rattle.plain_laws.specs.Plain.{count_below}
-use Rattle.feed_rows.specs.CommandWords.{value_at}
+use Rattle.commands.specs.CommandWords.{value_at}
 use Rattle.plan_words.specs.Words.{behind}
 use Rattle.plan_words.proofs.grammar.count_values.Given as goal
 

@@ -2,7 +2,7 @@ use Rattle.std.proofs.Common.{sym, ◌<◌, None, Some, length, arith}
 use Rattle.std.proofs.lemmas.List.{length-map}
 use Rattle.std.specs.Prelude.{is_none}
 use Rattle.plain_laws.proofs.Laws.{find_below_found, find_below_next}
-use Rattle.feed_rows.specs.NumberedItems.{read_at}
+use Rattle.commands.specs.NumberedItems.{read_at}
 use Rattle.feed_rows.specs.RideWords.{ride_word}
 use Rattle.plan_words.specs.Rides.{ride_of, texts_of}
 use Rattle.plan_words.proofs.RideLaws.{unread_at}

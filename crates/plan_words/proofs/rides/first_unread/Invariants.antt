@@ -1,7 +1,7 @@
 use Rattle.std.proofs.Common.{◌≡◌, None}
 use Rattle.std.specs.Prelude.{is_none}
 use Rattle.plain_laws.specs.Plain.{find_below}
-use Rattle.feed_rows.specs.NumberedItems.{read_at}
+use Rattle.commands.specs.NumberedItems.{read_at}
 use Rattle.feed_rows.specs.RideWords.{ride_word}
 use Rattle.plan_words.specs.Rides.{texts_of}
 use Rattle.plan_words.proofs.rides.first_unread.Given as goal

@@ -2,9 +2,9 @@ use Rattle.std.proofs.Common.{◌≡◌, ◌∙◌, ℕ, List, Option, length, N
 use Rattle.std.proofs.lemmas.List.{length-map}
 use Rattle.std.specs.Prelude.{is_none}
 use Rattle.plain_laws.specs.Plain.{find_below}
-use Rattle.feed_rows.specs.NumberedItems.{read_at}
+use Rattle.commands.specs.NumberedItems.{read_at}
 use Rattle.feed_rows.specs.RideWords.{ride_word}
-use Rattle.feed_rows.specs.declared.usage.UsageFault.TheVariants as usage
+use Rattle.commands.specs.declared.usage.UsageFault.TheVariants as usage
 use Rattle.plan_words.specs.Rides.{texts_of}
 use Rattle.plan_words.proofs.RideLaws.{are_read, ride_unread, unread_within}
 use Rattle.plan_words.proofs.rides.rides_in.Goals as goal

@@ -13,5 +13,5 @@ returns c =
       gaps = λ pair at. absurd (none_in pair (rw c.new.ensures.items at at));
       noted = λ pair at. absurd (c.in_ok-of-2.ensures pair at);
       verdicts = λ ride has at. absurd (c.in_ok-of.ensures ride has at);
-      walked = λ from to lt e f at. absurd (none-some e (rw c.new-2.ensures.items at at));
+      walked = λ walk has from to lt e f at. absurd (none-some e (rw (c.in_ok-no_walks.ensures walk has) at at));
     }

@@ -58,9 +58,8 @@ returns-clause-found c =
     let old = c.loop-to.found in
     let new = c.keep_walk.new.self in
     let e = c.in_ok-keep_walk.ensures in
-    let all = ends_covered self old network ends c.loop-to.to c.loop-to-test.false c.loop-to.invariant.covers in
-    walked_found self old new c.loop-to.invariant.found e.same.0 e.same.1 e.same.2 e.same.3
-    (subst (λ (n : Option NetworkId). CoversEnds self old n new.walked.ends.items) (sym e.network) (subst (CoversEnds self old network) (sym e.ends) all))
+    walked_found self old new network ends c.loop-to.invariant.found e.same.0 e.same.1 e.same.2 e.same.3 e.walks
+    (ends_covered self old network ends c.loop-to.to c.loop-to-test.false c.loop-to.invariant.covers)
 
 pub returns-clause-grows : goal.returns-clause-grows
 returns-clause-grows c =

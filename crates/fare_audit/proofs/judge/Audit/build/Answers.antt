@@ -9,5 +9,4 @@ invariant_of-result c =
       timeframes = c.in-Ok.ensures;
       rules = c.in_ok-rules.ensures;
       products = c.in_ok-products.ensures;
-      likes = c.in_ok-likes.ensures;
     }

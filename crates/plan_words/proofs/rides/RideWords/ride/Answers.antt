@@ -1,6 +1,6 @@
 use Rattle.std.proofs.Common.{◌≡◌, ◌∙◌, None, Some, sym, subst, arith}
 use Rattle.std.proofs.lemmas.List.{length-map}
-use Rattle.feed_rows.specs.CommandWords.{word_at}
+use Rattle.commands.specs.CommandWords.{word_at}
 use Rattle.feed_rows.specs.RideWords.{ride_word}
 use Rattle.plan_words.specs.Rides.{ride_of, texts_of}
 use Rattle.plan_words.proofs.RideLaws.{ride_within, ride_there, no_ride}

@@ -1,0 +1,2 @@
+pub mod PriceQueryLaws
+pub mod GeneratedLaws

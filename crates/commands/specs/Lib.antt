@@ -1,0 +1,10 @@
+pub mod UsageFaults
+pub mod CommandWords
+pub mod NumberedItems
+pub mod Table
+pub mod Requests
+pub mod Commands
+pub mod Queries
+pub mod PriceQueries
+pub mod CommandTexts
+pub mod GeneratedPlan

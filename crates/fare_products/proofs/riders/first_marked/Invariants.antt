@@ -1,7 +1,0 @@
-use Rattle.std.proofs.Common.{◌≡◌, None}
-use Rattle.plain_laws.specs.Plain.{find_below}
-use Rattle.feed_rows.specs.Queries.{is_default_rider}
-use Rattle.fare_products.proofs.riders.first_marked.Given as goal
-
-abbrev pub invariant-loop-number : goal.invariant-loop-number
-invariant-loop-number l = find_below l.number (is_default_rider l.feed) ≡ None
