@@ -83,3 +83,33 @@ opened = refl
 closed_in_use : idle for_some 20241 20241 ≡ []
 unfolding idle_rules some_ride some_ride_of_run is_ride ride_facts calls_of call_at shifts_of is_active stop_areas holds_at leg_facts network_matches area_matches frame_matches rule_matches is_top_priority is_selected_rule
 closed_in_use = refl
+
+-- a gap of one day is one, whichever of the days it is
+unpaid_later : gaps buses no_category 20240 20241 ≡ pair 1 2 ∷ []
+unfolding uncovered_pairs some_ride some_ride_of_run has_option is_ride ride_facts calls_of call_at shifts_of is_active stop_areas holds_at leg_facts network_matches area_matches frame_matches rule_matches is_top_priority is_selected_rule is_open
+unpaid_later = refl
+
+-- where the rule of priority has a ticket for a rider category alone, the other one, whose ticket is open, pays for nothing
+abbrev first_closed : FeedRows
+first_closed = record buses { products = record (ticket 0 250) { rider = Some (record { 0 = 0 }) } ∷ ticket 1 400 ∷ [] }
+
+lesser_pays_not : gaps first_closed no_category 20241 20241 ≡ pair 0 1 ∷ pair 0 2 ∷ pair 1 2 ∷ []
+unfolding uncovered_pairs some_ride some_ride_of_run has_option is_ride ride_facts calls_of call_at shifts_of is_active stop_areas holds_at leg_facts network_matches area_matches frame_matches rule_matches is_top_priority is_selected_rule is_open
+lesser_pays_not = refl
+
+-- the first trip departs at 8:00 and at 8:30, and buses have a rule from 8:30 on: the later run selects it, the earlier one has none
+abbrev half_hourly : FeedRows
+half_hourly = record base {
+  frequencies = record { trip = record { 0 = 0 }; start = 28800; end = 32400; headway = 1800 } ∷ [];
+  timeframes = record { frame = record { 0 = 0 }; service = record { 0 = 0 }; start = 30600; end = 86400 } ∷ [];
+  frame_names = codes "late" ∷ [];
+  leg_rules = record (network_rule 0 0 0) { from_frame = Some (record { 0 = 0 }) } ∷ network_rule 1 1 1 ∷ [];
+}
+
+later_run_selects : idle half_hourly 20241 20241 ≡ []
+unfolding idle_rules some_ride some_ride_of_run is_ride ride_facts calls_of call_at shifts_of is_active stop_areas holds_at leg_facts network_matches area_matches frame_matches rule_matches is_top_priority is_selected_rule
+later_run_selects = refl
+
+earlier_run_unpaid : gaps half_hourly no_category 20241 20241 ≡ pair 0 1 ∷ pair 0 2 ∷ []
+unfolding uncovered_pairs some_ride some_ride_of_run has_option is_ride ride_facts calls_of call_at shifts_of is_active stop_areas holds_at leg_facts network_matches area_matches frame_matches rule_matches is_top_priority is_selected_rule is_open
+earlier_run_unpaid = refl
