@@ -2,7 +2,7 @@
 // of all four types, counts, priorities and riders.
 ghost use Rattle.plan_rides.specs.InTime.{IsUsualQuery};
 
-use crate::feeds::feed_of;
+use crate::feeds::{AT_ONCE, feed_of};
 use feed_files::FileName;
 use feed_rows::{Buyer, Feed, Query};
 use std::alloc::{AllocError, Global};
@@ -156,7 +156,7 @@ pub fn drawn_feed(alloc: Global, seed: u32) -> Result<Feed, AllocError> {
         (FileName::FareLegRules, LEG_RULES[(seed / 3 % 3) as usize]),
         (FileName::FareTransferRules, changes.as_slice()),
     ];
-    feed_of(alloc, &texts)
+    feed_of(alloc, &texts, AT_ONCE)
 }
 
 // From A to G on 2 June 2025 at 07:00:00 within an hour, by two to four rides, for one rider or the other.

@@ -13,21 +13,17 @@ fn rows_within(alloc: Global, most: u32) -> Result<u32, TextError>
     Ok(Table::read(alloc, stops, FileName::Stops, true, most)?.rows())
 }
 
-// Whether no more than two rows are a fault of the file as a whole.
-fn is_too_many(alloc: Global) -> bool {
-    let wanted = FeedFault {
-        kind: FaultKind::TooManyRows,
-        file: FileName::Stops,
-        row: 0,
-        column: None,
-    };
-    match rows_within(alloc, 2) {
-        Err(TextError::Fault(fault)) => fault == wanted,
-        Ok(_) | Err(TextError::NoMemory) => false,
-    }
-}
+// The fault of the file as a whole where there are more.
+const TOO_MANY: FeedFault = FeedFault {
+    kind: FaultKind::TooManyRows,
+    file: FileName::Stops,
+    row: 0,
+    column: None,
+};
 
 #[test]
 fn row_limit(rt: HostRuntime) {
-    assert!(rt; matches!(rows_within(rt.alloc(), 3), Ok(3)) && is_too_many(rt.alloc()));
+    let alloc = rt.alloc();
+    assert!(rt; matches!(rows_within(alloc, 3), Ok(3)));
+    assert!(rt; matches!(rows_within(alloc, 2), Err(TextError::Fault(fault)) if fault == TOO_MANY));
 }
