@@ -11,10 +11,6 @@ use Rattle.commands.specs.declared.table.WordKind.TheVariants as kind
 use Rattle.commands.specs.declared.usage.StopWord.TheVariants as stop_word
 use Rattle.commands.specs.declared.table.TheConstants.{RIDES, RIDER, WITHIN, STATS, PLAN, PRICE, CHECK, AUDIT, GEN}
 
--- the options of all commands
-abbrev pub all_options : List CommandOption
-all_options = option.Rides ∷ option.Rider ∷ option.Within ∷ option.Stats ∷ []
-
 -- an option: its name as a word, and whether a value follows it; else it is a flag
 abbrev pub option_row : CommandOption → List ℕ × Bool
 option_row option.Rides = (RIDES.0.now, RIDES.1)

@@ -1,6 +1,6 @@
 //! The commands, their words and their options, as tables.
 ghost use Rattle.std.specs.Prelude.{◌≡◌};
-ghost use Rattle.commands.specs.Table.{all_commands, all_options, command_text, form_of, has_value, is_repeated, option_row, option_text, options_of, row_of, word_text, words_of};
+ghost use Rattle.commands.specs.Table.{all_commands, command_text, form_of, has_value, is_repeated, option_row, option_text, options_of, row_of, word_text, words_of};
 
 use crate::usage::StopWord;
 use feed_rows::MOST_RIDES;
@@ -30,18 +30,6 @@ const WITHIN: OptionRow = ("--within", true);
 const STATS: OptionRow = ("--stats", false);
 
 impl CommandOption {
-    /// All options.
-    pub fn all() -> &'static [CommandOption]
-        ensures { result.now ≡ all_options }
-    {
-        &[
-            CommandOption::Rides,
-            CommandOption::Rider,
-            CommandOption::Within,
-            CommandOption::Stats,
-        ]
-    }
-
     // Its row.
     fn row(self) -> OptionRow
         ensures { (result.0.now, result.1) ≡ option_row self }
