@@ -1,14 +1,11 @@
 -- The cheapest of a product's rows that are open to a buyer, row by row.
 use Rattle.std.proofs.Common.{◌≡◌, refl, sym, ◌∙◌, ap, subst, ℕ, zero, suc, ◌+◌, ◌<◌, ◌≤◌, ◌⊎◌, inl, inr, arith}
-use Rattle.std.proofs.Common.{Bool, true, false, List, [], ◌∷◌, ◌++◌, length, map, take, append-nil}
+use Rattle.std.proofs.Common.{Bool, true, false, List, [], ◌∷◌, ◌++◌, length, append-nil}
 use Rattle.std.specs.Prelude.{Option, Some, None, ℤ, ◌≤ℤ◌, ◌<ℤ◌, int_lt, slice_get, option_map, IfSome}
 use Rattle.std.proofs.lemmas.Bool.{cases_lt}
 use Rattle.std.proofs.lemmas.Bool.Decides.{nat_tests}
 use Rattle.std.proofs.lemmas.Int.{ints}
-use Rattle.std.proofs.Math.ListN.{get_or-map}
-use Rattle.std.proofs.lemmas.List.{map_more}
-use Rattle.std.proofs.lemmas.Option.{slice_get_within, same_Some, none-some, get_or_from_slice_get}
-use Rattle.std.proofs.lemmas.Option.{unwrap_or-slice_get}
+use Rattle.std.proofs.lemmas.Option.{slice_get_within, same_Some, none-some}
 use Rattle.std.proofs.lemmas.List.Sums.{fold_push}
 use Rattle.transit_base.specs.declared.numbers.ProductId.{ProductId}
 use Rattle.transit_base.specs.declared.numbers.ProductRowId.{ProductRowId}
@@ -22,10 +19,9 @@ use Rattle.feed_laws.proofs.OpenRowLaws.{least_open_row-some, least_open_row-fou
 use Rattle.plain_laws.specs.Plain.{at_and, picks_below}
 use Rattle.fare_products.specs.declared.Priced1.{Priced1}
 use Rattle.fare_products.specs.declared.Products.{Products}
-use Rattle.fare_products.specs.declared.LeastRows.{LeastRows}
 use Rattle.fare_products.specs.declared.offers.Offer.{Offer}
 use Rattle.fare_products.specs.Offers.{offer, offer_at, offers_at, is_of, opens, cheaper, least_offer}
-use Rattle.fare_products.specs.BuiltProducts.{AreProductsOf, AreLeastRowsOf, least_at}
+use Rattle.fare_products.specs.BuiltProducts.{AreProductsOf}
 
 module _ (feed : FeedRows) (product : ProductId) (buyer : Buyer) where
   -- row i, where it is open
@@ -231,31 +227,3 @@ module _ (feed : FeedRows) (product : ProductId) (buyer : Buyer) where
       let all = is ∙ ap (least_offer buyer) (are.of_product product.0) in
       let n = length feed.products in
       subst IsCheapest (sym all) (cheapest (least_offer buyer (offers_below n)) (tells n))
-
--- ---- the cheapest rows of all products
-
--- one product more
-pub least_more : (buyer : Buyer) (groups : List (List Offer)) (i : ℕ) (group : List Offer)
-    (before now : List (Option Priced1)) (least : Option Priced1) → slice_get groups i ≡ Some group
-    → before ≡ map (least_offer buyer) (take i groups) → least ≡ least_offer buyer group → now ≡ before ++ least ∷ []
-    → now ≡ map (least_offer buyer) (take (i + 1) groups)
-least_more buyer groups i group before now least got was is made =
-    let lt = slice_get_within groups i group got in
-    let here = is ∙ ap (least_offer buyer) (sym (get_or_from_slice_get groups i group group got)) in
-    made ∙ ap (λ xs. xs ++ least ∷ []) was
-    ∙ ap (λ x. map (least_offer buyer) (take i groups) ++ x ∷ []) here
-    ∙ sym (map_more (least_offer buyer) groups i group lt)
-
--- each is the cheapest of its product
-pub least_rows_are : (feed : FeedRows) (products : Products) (buyer : Buyer) (rows : LeastRows)
-    → AreProductsOf feed products → rows.rows.items ≡ map (least_offer buyer) products.by_product
-    → AreLeastRowsOf feed buyer rows
-least_rows_are feed products buyer rows are made =
-    record { row = λ product. (each product).row; amount = λ product. (each product).amount }
-  where
-    each : (product : ProductId) → IsCheapest feed product buyer (least_at rows.rows.items product.0)
-    each product =
-        cheapest_of feed product buyer products are (least_at rows.rows.items product.0)
-        (ap (λ xs. least_at xs product.0) made
-        ∙ get_or-map (least_offer buyer) products.by_product product.0 []
-        ∙ ap (least_offer buyer) (sym (unwrap_or-slice_get products.by_product product.0 [])))

@@ -8,7 +8,7 @@ ghost use Rattle.feed_rows.specs.OpenRows.{least_open_row};
 ghost use Rattle.feed_rows.specs.FareSums.{amount_of};
 ghost use Rattle.feed_rows.specs.MoneyText.{money_text};
 ghost use Rattle.fare_products.specs.Offers.{offers_at};
-ghost use Rattle.fare_products.specs.BuiltProducts.{AreProductsOf, AreLeastRowsOf};
+ghost use Rattle.fare_products.specs.BuiltProducts.{AreProductsOf};
 
 mod money;
 mod offers;
@@ -46,19 +46,6 @@ impl Drop for Products {
             by_product: _,
             decimals: _,
         } = self;
-    }
-}
-
-/// The cheapest row of each product for one buyer.
-pub struct LeastRows {
-    /// By product; none where no row is open to the buyer.
-    rows: Vec<Option<Priced1>>,
-}
-
-// Written out, so that what holds one needn't look into it to let go of it.
-impl Drop for LeastRows {
-    fn drop(self) {
-        let LeastRows { rows: _ } = self;
     }
 }
 
@@ -109,21 +96,6 @@ impl Products {
         least_offer(self.offers(product), buyer)
     }
 
-    /// What [`least`](Products::least) gives for each product, for a buyer who asks often.
-    ///
-    /// # Errors
-    /// Want of memory.
-    pub fn least_rows(&self, alloc: Global, buyer: Buyer) -> Result<LeastRows, AllocError>
-        ensures { IfOk result (λ rows. (feed : FeedRows) → AreProductsOf feed self.now → AreLeastRowsOf feed buyer rows) }
-    {
-        let count = self.by_product.count();
-        let mut rows = Vec::with_capacity(alloc, count)?;
-        for product in 0..count {
-            rows.push(least_offer(self.by_product.group(product), buyer))?;
-        }
-        Ok(LeastRows { rows })
-    }
-
     /// The amount as text in the feed's currency, such as `-3.50`.
     pub fn money_text(&self, amount: Money) -> MoneyText
         ensures { (feed : FeedRows) → AreProductsOf feed self.now → result ≡ money_text feed.decimals amount.0 }
@@ -136,18 +108,5 @@ impl Products {
         ensures { result.now ≡ offers_at self.now.by_product product.0 }
     {
         self.by_product.get(product.0 as usize)
-    }
-}
-
-impl LeastRows {
-    /// The cheapest row of the product for the buyer, as [`least`](Products::least) gives it, by one look-up.
-    pub fn get(&self, product: ProductId) -> Option<Priced1>
-        ensures row { (feed : FeedRows) → (buyer : Buyer) → AreLeastRowsOf feed buyer self.now → option_map (λ p. p.row) result ≡ least_open_row feed product buyer }
-        ensures amount { (feed : FeedRows) → (buyer : Buyer) → AreLeastRowsOf feed buyer self.now → IfSome result (λ p. p.amount.0 ≡ amount_of feed p.row) }
-    {
-        match self.rows.get(product.0 as usize) {
-            Some(least) => *least,
-            None => None,
-        }
     }
 }
