@@ -1,5 +1,5 @@
-//! The kinds of the legs that rides are. What fare rules look at in a leg is found once for all rides between two stops, of one network,
-//! whose moments lie between the same starts and ends of timeframes.
+//! The kinds of the legs that rides are. What fare rules look at in a leg is found once for all rides between stops with the same
+//! areas, of one network, whose moments lie between the same starts and ends of timeframes.
 #![tactic(auto)]
 
 ghost use Rattle.std.specs.Prelude.{◌≡◌, [], IfOk};
