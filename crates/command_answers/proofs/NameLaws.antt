@@ -26,9 +26,6 @@ pub record AreNamed (feed : FeedRows) (words : List RideWord) (n : ℕ) (named :
   pub known : AreKnown feed named
   pub many : length named ≡ n
 
-pub none_named : (feed : FeedRows) (words : List RideWord) → AreNamed feed words 0 []
-none_named feed words = record { rides = refl; known = λ i d lt. absurd (omega arith); many = refl }
-
 -- the ride that a word names, in its place among the words
 at_word : (feed : FeedRows) (words : List RideWord) (k : ℕ) (word : RideWord) → slice_get words k ≡ Some word
     → read_at (named_ride feed) words k ≡ named_ride feed word

@@ -1,10 +1,9 @@
 -- What rides of the days there are, as the definitions say it.
-use Rattle.std.proofs.Common.{◌≡◌, refl, sym, ◌∙◌, ap, subst, ℕ, ◌+◌, ◌<◌, ◌≤◌, Bool, true, false, ◌&&◌, ◌==◌, List, length, Contains, ℤ, pos, ◌+ℤ◌, ◌-ℤ◌, ◌≤ℤ◌, arith}
-use Rattle.std.specs.Prelude.{Option, Some, None, slice_get, not, nat_lt, int_le, unsigned_abs}
+use Rattle.std.proofs.Common.{◌≡◌, refl, sym, ◌∙◌, ap, subst, ℕ, ◌+◌, ◌<◌, Bool, true, false, ◌&&◌, ◌==◌, List, length, Contains, ℤ, pos, ◌+ℤ◌}
+use Rattle.std.specs.Prelude.{Option, Some, None, slice_get, not, nat_lt, int_le}
 use Rattle.std.specs.List.{list_any}
 use Rattle.std.proofs.lemmas.Bool.{and_from, and_parts}
 use Rattle.std.proofs.lemmas.Bool.Decides.{nat_tests}
-use Rattle.std.proofs.lemmas.Int.{ints}
 use Rattle.std.proofs.lemmas.Option.{slice_get_within}
 use Rattle.transit_base.specs.declared.calendar.Day.{Day}
 use Rattle.transit_base.specs.declared.numbers.StopId.{StopId}
@@ -20,15 +19,8 @@ use Rattle.feed_rows.specs.Shifts.{shifts_of}
 use Rattle.feed_laws.proofs.RideLaws.{ride_facts_tells}
 use Rattle.feed_laws.proofs.ShiftLaws.{Contains_from_found, list_any-shifts_of}
 use Rattle.plain_laws.specs.Plain.{any_below, filled_and}
-use Rattle.plain_laws.proofs.Laws.{any_below_hit, any_below_tells, any_passes, filled_and-true, le-int_le, list_any_tells}
+use Rattle.plain_laws.proofs.Laws.{any_below_hit, any_below_tells, any_passes, filled_and-true, list_any_tells}
 use Rattle.fare_audit.specs.Found.{AuditOf, IsAudited}
-
--- so many days
-pub days_counted : (first last : ℤ) (count : ℕ) → first ≤ℤ last → pos count ≡ last -ℤ first +ℤ pos 1 → days_from first last ≡ count
-days_counted first last count le e = rw (le-int_le first last le) (number (last -ℤ first) count (omega (arith, ints, le)) e)
-  where
-    number : (d : ℤ) (n : ℕ) → pos 0 ≤ℤ d → pos n ≡ d +ℤ pos 1 → unsigned_abs d + 1 ≡ n
-    number d n some e = grind (arith, ints, some, e)
 
 -- a trip that runs is one of the feed
 pub runs_within : (feed : FeedRows) (trip : TripId) (day : ℤ) → runs_on feed trip day ≡ true → trip.0 < length feed.trips

@@ -51,10 +51,6 @@ module _ {X : Type 0} where
       by t h true near = rw (list_any-insert (λ x. at_most x t) (filter (λ x. not (at_most e x)) xs) n e, near) refl
       by t h false apart = rw (list_any-insert (λ x. at_most x t) (filter (λ x. not (at_most e x)) xs) n e, apart) (has_as_good-filter at_most before laws xs e t h apart)
 
-  -- it has_as_good the new member
-  pub has_as_good-offer : (at_most before : X → X → Bool) → RankLaws at_most before → (xs : List X) (n : ℕ) (e : X) → has_as_good at_most (insert xs n e) e ≡ true
-  has_as_good-offer at_most before laws xs n e = rw (list_any-insert (λ x. at_most x e) xs n e, laws.reflexive e) refl
-
   pub All-thinned : (e : X) (at_most : X → X → Bool) (xs : List X) → All (λ x. at_most e x ≡ false) (filter (λ x. not (at_most e x)) xs)
   All-thinned e at_most [] = All-nil (λ x. at_most e x ≡ false)
   All-thinned e at_most (x ∷ xs) = by (All-thinned e at_most xs) (at_most e x) refl
@@ -89,17 +85,3 @@ module _ {X : Type 0} where
   -- each member of a thinned front was one
   pub from-thinned : (p : X → Bool) (xs ys : List X) → ys ≡ filter p xs → All (Contains xs) ys
   from-thinned p xs ys thin = subst (All (Contains xs)) (sym thin) (All-filter p (Contains xs) xs (All-contains_itself xs))
-
-module _ {X : Type 0} (at_most : X → X → Bool) where
-  -- a list that has_as_good something has a member that is at most it
-  pub member_of_covers : (bag : List X) (y : X) → has_as_good at_most bag y ≡ true → (x : X) × Contains bag x × (at_most x y ≡ true)
-  member_of_covers [] y h = absurd (true≢false (sym h))
-  member_of_covers (x ∷ xs) y h = by (at_most x y) refl (member_of_covers xs y)
-    where
-      by : (b : Bool) → at_most x y ≡ b → (has_as_good at_most xs y ≡ true → (z : X) × Contains xs z × (at_most z y ≡ true)) → (z : X) × Contains (x ∷ xs) z × (at_most z y ≡ true)
-      by true near rest = (x, (0, omega arith, refl), near)
-      by false apart rest =
-          let more : has_as_good at_most xs y ≡ true = grind arith in
-          let w = rest more in
-          let has = w.1 in let inside = has.1 in
-          (w.0, (suc has.0, omega arith, has.2), w.2)

@@ -47,7 +47,7 @@ use Rattle.plan_rides.specs.Boarding.{IsAmong, MayRide}
 use Rattle.plan_rides.proofs.ArrivalLaws.{arrives_in_time}
 use Rattle.plan_rides.proofs.MarkLaws.{stands_for_member, member_of_stands_for, among_more}
 use Rattle.plan_plain.specs.declared.search.End.{End}
-use Rattle.plan_plain.specs.Searches.{covers_entry, AddsEnd, EndsBy, HasRides, IsBest, IsCheapest, IsEarliest, IsEarliestEnd, IsEndIn, GoesOn, Gains, StartsAt, IsSearched, StartsAmong, CoversWays}
+use Rattle.plan_plain.specs.Searches.{covers_entry, AddsEnd, HasRides, IsBest, IsCheapest, IsEarliest, IsEarliestEnd, IsEndIn, GoesOn, Gains, StartsAt, IsSearched, StartsAmong, CoversWays}
 
 -- one step in time is a step
 pub step_of_timed : (feed : FeedRows) (query : Query) (s : Stand) (r : Ride) (m : Stand) → next_in_time feed query s r ≡ Some m → next_stand feed query s r ≡ Some m
@@ -138,38 +138,6 @@ gains_offer feed query Part item old new is least covered still from = record {
   right = λ h. All-weaker (λ x. Contains old x ⊎ (x ≡ item)) (IsEntry feed query) (λ x. ⊎_elim (λ in_old. All-contains (IsEntry feed query) old x h in_old) (λ same. subst (IsEntry feed query) (sym same) is)) new from;
   all = λ e part. covers-upward new item e covered (least e part);
 }
-
--- where one arrives at none in time, the end stays
-pub keeps_end : (feed : FeedRows) (query : Query) (stand : Stand) (last : StopId) (old : Option End) →
-    arrival_in_time feed query stand last ≡ None → AddsEnd feed query stand last old old
-keeps_end feed query stand last old none = record {
-  still = λ at h. h;
-  all = λ at is. absurd (none-some at (sym none ∙ is));
-  right = inl refl;
-}
-
--- so it does where it is no later
-pub keeps_earlier : (feed : FeedRows) (query : Query) (stand : Stand) (last : StopId) (held : End) (arrival : ℤ) →
-    arrival_in_time feed query stand last ≡ Some arrival → held.arrival.0 ≤ℤ arrival →
-    AddsEnd feed query stand last (Some held) (Some held)
-keeps_earlier feed query stand last held arrival is sooner = record {
-  still = λ at h. h;
-  all = λ at e. subst (λ z. held.arrival.0 ≤ℤ z) (same_Some _ _ (sym is ∙ e)) sooner;
-  right = inl refl;
-}
-
--- where there was no end, or a later one, the end at this stop is taken
-pub takes_end : (feed : FeedRows) (query : Query) (stand : Stand) (end : End) (old : Option End) →
-    arrival_in_time feed query stand end.last ≡ Some end.arrival.0 →
-    ((at : ℤ) → EndsBy at old → end.arrival.0 ≤ℤ at) → AddsEnd feed query stand end.last old (Some end)
-takes_end feed query stand end old is sooner = record {
-  still = sooner;
-  all = λ at e. same_moment end.arrival.0 at (same_Some _ _ (sym is ∙ e));
-  right = inr (refl, is);
-}
-  where
-    same_moment : (a b : ℤ) → a ≡ b → a ≤ℤ b
-    same_moment a b e = omega (arith, ints)
 
 -- an end at a stop of a part is one of a greater part
 end_in_more : (feed : FeedRows) (query : Query) (stand : Stand) (Part Whole : StopId → Type 0) (end : Option End) →

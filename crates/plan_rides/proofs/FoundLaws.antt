@@ -56,12 +56,6 @@ module _ (feed : FeedRows) (query : Query) (latest : CutoffOf) (stop : ℕ) (fro
       AddsFound feed query latest stop from Whole rides rides
   found_none Whole rides never = adds_none (λ x at. inl at) (λ ride own. never ride own.0 own.1 own.2)
 
-  -- before the first departure
-  pub found_by_none : (departures : List Departure) (rides : List CaughtRide) →
-      AddsFound feed query latest stop from (IsByAmong feed departures 0) rides rides
-  found_by_none departures rides =
-      found_none (IsByAmong feed departures 0) rides (λ ride facts e among. let below = among.1 in omega (arith, below))
-
   -- one departure more, from the stop, no earlier than this
   pub found_among : (departures : List Departure) (k : ℕ) (x : Departure) (old mid new : List CaughtRide) →
       k < length departures → (get_or departures k x).stop.0 ≡ stop → from ≤ℤ (get_or departures k x).at.0 →

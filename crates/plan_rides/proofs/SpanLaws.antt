@@ -237,14 +237,6 @@ list_past lists one i past =
     ap (λ o. unwrap_or o [])
     (slice_get_past (lists ++ one ∷ []) i (let long = length_push lists one in omega (arith, past, long)))
 
--- no lists serve for every query
-pub no_spans_serve : (feed : FeedRows) (query : Query) → AreSpans feed query no_spans
-no_spans_serve feed query = record {
-  ends = λ stop last seconds stands is few. none_early stop.0 (pos seconds);
-  boards = λ more. board_none feed query [];
-  rides = λ more. one_none feed query [];
-}
-
 -- the first spans
 pub first_spans : (feed : FeedRows) (query : Query) (lists : SpanLists) (spans : List (Option Secs)) →
     lists ≡ no_spans →

@@ -1,5 +1,5 @@
 -- Entries of two searches, of which the best answer a query.
-use Rattle.std.proofs.Common.{◌≡◌, refl, sym, ◌∙◌, ap, subst, arith, zero, suc, ◌⊎◌, inl, inr, ⊎_elim, true, List, [], ◌∷◌, ◌++◌}
+use Rattle.std.proofs.Common.{◌≡◌, sym, ◌∙◌, subst, arith, zero, suc, ◌⊎◌, inl, inr, ⊎_elim, true, List, [], ◌∷◌, ◌++◌}
 use Rattle.std.specs.Prelude.{All, Contains, Some, map}
 use Rattle.std.proofs.lemmas.Option.{same_Some}
 use Rattle.std.proofs.lemmas.List.Elements.{All-append, All-contains, All-nil, All-weaker, All-contains_itself, Contains-append_left, Contains-append_right}
@@ -63,11 +63,6 @@ adds_more entries old mid new entry adds covered still from = record {
     one : All (λ e. has_as_good as_good new e ≡ true) (entry ∷ [])
     one zero d lt = covered
     one (suc k) d lt = absurd (omega (arith, lt))
-
--- a list of what its items are is the list
-pub mapped_itself : {X : Type 0} (xs : List X) → xs ≡ map (λ x. x) xs
-mapped_itself [] = refl
-mapped_itself (x ∷ xs) = ap (λ ys. x ∷ ys) (mapped_itself xs)
 
 module _ (feed : FeedRows) (query : Query) (known found mid new : List Entry) (first : AddsEntries known [] mid)
     (second : AddsEntries found mid new) (known_are : All (IsEntry feed query) known) (found_are : All (IsEntry feed query) found)

@@ -86,13 +86,6 @@ lasts_in task round latest lasts is last =
 -- ---- the positions that all labels reach
 
 module _ (task : Searched) (round : Round) where
-  -- none yet
-  pub none_reached : AreReached task round 0 []
-  none_reached = record {
-    all = λ b steps. let below = steps.1 in absurd (omega (arith, below));
-    right = λ reached at. let lt = at.1 in absurd (omega (arith, lt));
-  }
-
   -- those of one label more
   pub label_reached : (source : Source) (k : ℕ) (old new : List Reached) → source.number ≡ k →
       slice_get round.labels.now k ≡ Some source.label.now → source.label.now.rides ≡ round.count →
@@ -135,9 +128,6 @@ module _ (task : Searched) (round : Round) where
   AreUntils last untils =
       (number : ℕ) (x : Label) (until : Until) → slice_get round.labels.now number ≡ Some x → x.rides ≡ round.count →
       slice_get untils number ≡ Some until → IsUntilIn task round last x until
-
-  pub untils_none : (last : ℤ) → AreUntils last []
-  untils_none last number x until is counts at = let lt = slice_get_within [] number until at in absurd (omega (arith, lt))
 
   -- one label more
   pub untils_more : (untils : List Until) (old last : ℤ) (k : ℕ) (next : Until) (y : Label) → length untils ≡ k → old ≤ℤ last →

@@ -12,7 +12,6 @@ use Rattle.feed_rows.specs.declared.fares.Triple.{Triple}
 use Rattle.feed_rows.specs.declared.journeys.Query.{Query}
 use Rattle.feed_rows.specs.declared.journeys.RideFacts.{RideFacts}
 use Rattle.feed_rows.specs.FeedRows.{FeedRows}
-use Rattle.feed_rows.specs.LabelCover.{price_so_far}
 use Rattle.feed_rows.specs.PartialJourneys.{LabelFacts}
 use Rattle.feed_rows.specs.SoundFeed.{IsSoundFeed}
 use Rattle.plain_laws.proofs.Laws.{int_le-true}
@@ -213,10 +212,6 @@ pub record IsUntilFirst (task : Searched) (finals : List Final) (since : Option 
   pub within : until ≤ℤ deadline task.query
   pub first : (m : ℕ) → m < n → IsUntilBy task finals since m a until
 
-pub until_none : (task : Searched) (finals : List Final) (since : Option ℤ) (a : LabelFacts) (until : ℤ) → until ≤ℤ deadline task.query →
-    IsUntilFirst task finals since 0 a until
-until_none task finals since a until within = record { within = within; first = λ m lt. absurd (omega (arith, lt)) }
-
 pub until_more : (task : Searched) (finals : List Final) (since : Option ℤ) (n : ℕ) (a : LabelFacts) (old by new : Moment) →
     IsUntilFirst task finals since n a old.0 → IsUntilBy task finals since n a by.0 → old.0 ≤ℤ new.0 → by.0 ≤ℤ new.0 →
     (new ≡ old) ⊎ (new ≡ by) → IsUntilFirst task finals since (n + 1) a new.0
@@ -268,10 +263,6 @@ outdone_sooner task finals x final price old new was among is (inr sooner) = λ 
     rw any refl
 
 -- ---- labels that end no better
-
--- what is told of no further rides
-pub costs_here : (feed : FeedRows) (query : Query) (a : LabelFacts) (price : ℤ) → price ≡ price_so_far a → CostsBy feed query 0 a price
-costs_here feed query a price is triple leads = let so = leads.1.price in omega (arith, ints, is, so)
 
 -- and of some
 pub costs_more : (feed : FeedRows) (query : Query) (n : ℕ) (a : LabelFacts) (price : ℤ) → CostsOn feed query None n a price →

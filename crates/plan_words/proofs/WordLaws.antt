@@ -1,10 +1,9 @@
 -- Words behind a command, and what is counted and picked of them.
-use Rattle.std.proofs.Common.{◌≡◌, ℕ, zero, suc, ◌+◌, ◌-◌, ◌<◌, ◌≤◌, Bool, true, false, List, [], ◌∷◌, ◌++◌, length, slice_get, Some, None, refl, arith, add-one, length-append, nat_lt, ◌&&◌}
+use Rattle.std.proofs.Common.{◌≡◌, ℕ, zero, suc, ◌+◌, ◌-◌, ◌<◌, ◌≤◌, Bool, true, false, List, [], ◌∷◌, length, slice_get, Some, None, refl, arith, add-one, nat_lt, ◌&&◌}
 use Rattle.std.specs.Prelude.{if◌then◌else◌, is_some, codes}
 use Rattle.std.specs.List.{list_any}
 use Rattle.std.proofs.lemmas.Option.{slice_get-get_or}
-use Rattle.plain_laws.specs.Plain.{count_below, picks_below, all_below, any_below}
-use Rattle.plain_laws.proofs.Laws.{all_below-at}
+use Rattle.plain_laws.specs.Plain.{count_below}
 use Rattle.commands.specs.CommandWords.{CommandForm, word_at, is_one_of, is_dashed, joined_value, follows_option, role_at}
 use Rattle.commands.specs.declared.usage.WordRole.{WordRole}
 use Rattle.commands.specs.declared.usage.WordRole.TheVariants as role
@@ -21,30 +20,6 @@ word_behind (word ∷ words) i = rw (add-one i) refl
 -- one number more
 pub count_below_next : (i : ℕ) (test : ℕ → Bool) → count_below (i + 1) test ≡ count_below i test + (if test i then 1 else 0)
 count_below_next i test = rw (add-one i) refl
-
-pub all_below_next : (i : ℕ) (test : ℕ → Bool) → all_below i test ≡ true → test i ≡ true → all_below (i + 1) test ≡ true
-all_below_next i test before here = rw (add-one i, before, here) refl
-
--- a number that fails
-pub all_below_fails : (n i : ℕ) (test : ℕ → Bool) → i < n → test i ≡ false → all_below n test ≡ false
-all_below_fails n i test lt fails = step (all_below n test) refl
-  where
-    step : (all : Bool) → all_below n test ≡ all → all_below n test ≡ false
-    step false e = e
-    step true e = absurd (let passes = all_below-at n test e i lt in cc)
-
--- where each fails, none passes
-any_below_none : (n : ℕ) (test : ℕ → Bool) → ((i : ℕ) → i < n → test i ≡ false) → any_below n test ≡ false
-any_below_none zero test fail = refl
-any_below_none (suc n) test fail = rw (any_below_none n test (λ i lt. fail i (omega arith)), fail n (omega arith)) refl
-
--- how many are picked
-pub picks_next : {X : Type 0} (i : ℕ) (test : ℕ → Bool) (f : ℕ → X) → length (picks_below (i + 1) test f) ≡ length (picks_below i test f) + (if test i then 1 else 0)
-picks_next i test f = rw (add-one i) (step (test i))
-  where
-    step : (here : Bool) → length (picks_below i test f ++ (if here then f i ∷ [] else [])) ≡ length (picks_below i test f) + (if here then 1 else 0)
-    step true = length-append (picks_below i test f) (f i ∷ [])
-    step false = length-append (picks_below i test f) []
 
 -- a word by its place
 pub word_there : (words : List (List ℕ)) (i : ℕ) → i < length words → slice_get words i ≡ Some (word_at words i)

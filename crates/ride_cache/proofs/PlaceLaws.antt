@@ -4,7 +4,7 @@ use Rattle.std.specs.Prelude.{Option, Some, None}
 use Rattle.std.proofs.lemmas.Bool.{cases_eq}
 use Rattle.std.proofs.lemmas.List.{get_or-set_other, get_or-set_same, length-drop, length-set}
 use Rattle.std.proofs.lemmas.List.Elements.{Contains-push_cases}
-use Rattle.std.proofs.lemmas.Option.{none-some, same_Some}
+use Rattle.std.proofs.lemmas.Option.{none-some}
 use Rattle.plain_laws.proofs.Laws.{no_item}
 
 -- what stands in a list of which one place was written stood there, or is what was written
@@ -16,13 +16,6 @@ contains_set xs i v x lt at =
     (λ (e : at.0 ≡ i). inr (sym (ap (λ n. get_or (set xs i v) n x) e ∙ get_or-set_same xs i v x lt) ∙ at.2))
     (λ n. inl (at.0, omega (arith, within, long), sym (get_or-set_other xs i at.0 v x n) ∙ at.2))
     (cases_eq at.0 i)
-
--- so it is with items
-pub holds_set : {X : Type 0} (xs : List (Option X)) (i : ℕ) (v x : X) → i < length xs → Contains (set xs i (Some v)) (Some x) → Contains xs (Some x) ⊎ (v ≡ x)
-holds_set xs i v x lt at = ⊎_elim
-    (λ (old : Contains xs (Some x)). let r : Contains xs (Some x) ⊎ (v ≡ x) = inl old in r)
-    (λ (new : Some v ≡ Some x). let r : Contains xs (Some x) ⊎ (v ≡ x) = inr (same_Some _ _ new) in r)
-    (contains_set xs i (Some v) (Some x) lt at)
 
 -- with one empty place more there are no more items
 pub no_more : {X : Type 0} (xs : List (Option X)) → ((x : X) → Contains xs (Some x) → ⊥) → (x : X) → Contains (xs ++ None ∷ []) (Some x) → ⊥

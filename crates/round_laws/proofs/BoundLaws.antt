@@ -7,7 +7,6 @@ use Rattle.std.proofs.lemmas.Bool.{and_parts}
 use Rattle.std.proofs.lemmas.Bool.Decides.{nat_tests}
 use Rattle.std.proofs.lemmas.Int.{ints}
 use Rattle.transit_base.specs.Limits.{most_time}
-use Rattle.transit_base.specs.declared.numbers.StopId.{StopId}
 use Rattle.feed_rows.specs.declared.fares.ChangeChoice.{ChangeChoice}
 use Rattle.feed_rows.specs.declared.fares.Triple.{Triple}
 use Rattle.feed_rows.specs.declared.journeys.Query.{Query}
@@ -30,8 +29,8 @@ use Rattle.plain_laws.proofs.Laws.{filled_and-true, int_le-true, list_any-place}
 use Rattle.feed_laws.proofs.RideLaws.{ride_facts_timed}
 use Rattle.feed_laws.proofs.SoundTrips.{sound_trip}
 use Rattle.fare_laws.proofs.FloorLaws.{low_move, low_price, floor_below, min_second}
-use Rattle.round_laws.specs.Futility.{LeadsBy, IsFutile, some_takes_back, least_price, least_end, is_within}
-use Rattle.round_laws.specs.LabelSteps.{stand_of_facts, IsCaughtRide, IsLabelStep, IsLabelEnd}
+use Rattle.round_laws.specs.Futility.{LeadsBy, some_takes_back, least_price, least_end, is_within}
+use Rattle.round_laws.specs.LabelSteps.{stand_of_facts, IsCaughtRide, IsLabelStep}
 use Rattle.round_laws.proofs.IntLaws.{as_much, no_more}
 use Rattle.round_laws.proofs.TimeLaws.{later_end}
 
@@ -215,9 +214,3 @@ module _ (feed : FeedRows) (query : Query) (whole : Bool) (sound : IsSoundFeed f
       ahead_leads n leads.2 other (ahead_after a leads.2 leads.0 leads.1 leads.3 is) leads.4
 
 -- ---- ends of the last ride
-
--- after the last ride only an end follows
-pub ended_leads : (feed : FeedRows) (query : Query) (FoundTriple : Triple → Type 0) (a : LabelFacts) → query.rides ≤ a.rides →
-    ((last : StopId) (triple : Triple) → IsLabelEnd feed query a last triple → FoundTriple triple) → IsFutile feed query FoundTriple a
-ended_leads feed query FoundTriple a last ends zero triple leads = ends leads.0 triple leads.1
-ended_leads feed query FoundTriple a last ends (suc n) triple leads = let few = leads.3.rides.few in absurd (omega (arith, last, few))

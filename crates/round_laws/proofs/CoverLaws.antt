@@ -26,17 +26,6 @@ use Rattle.round_laws.specs.LabelSteps.{IsStated, stand_of_facts, facts_after, I
 use Rattle.round_laws.proofs.IntLaws.{as_much, no_more}
 use Rattle.round_laws.proofs.PartLaws.{same_stand}
 
--- facts cover themselves
-pub covers-refl : (a : LabelFacts) → Covers a a
-covers-refl a = record {
-  stop = refl;
-  arrival = as_much a.arrival;
-  rides = omega arith;
-  paid = as_much a.paid;
-  price = as_much (price_so_far a);
-  state = refl;
-}
-
 -- and what those cover that they cover
 pub covers-trans : (a b c : LabelFacts) → Covers a b → Covers b c → Covers a c
 covers-trans a b c p q = record {

@@ -3,13 +3,12 @@ use Rattle.std.proofs.Common.{◌≡◌, refl, ◌∙◌, ap, subst, ℕ, zero, 
 use Rattle.std.specs.Prelude.{Option, Some, None, IsSome, option_map, option_and_then, slice_get}
 use Rattle.std.proofs.lemmas.Bool.{cases_Bool}
 use Rattle.std.proofs.lemmas.Option.{slice_get-map, slice_get-get_or, slice_get_within}
-use Rattle.transit_base.specs.declared.numbers.StopId.{StopId}
 use Rattle.feed_rows.specs.declared.journeys.Ride.{Ride}
 use Rattle.feed_rows.specs.declared.states.Move.{Move}
 use Rattle.feed_rows.specs.FareSteps.{is_whole}
-use Rattle.feed_rows.specs.PartialJourneys.{PartialJourney, journey_to}
+use Rattle.feed_rows.specs.PartialJourneys.{PartialJourney}
 use Rattle.feed_rows.specs.declared.fares.Entry.{Entry}
-use Rattle.feed_rows.specs.RoundTables.{Label as Kept, Final as KeptFinal, RoundTable, with_ride, traced, entry_of_final, entries_of}
+use Rattle.feed_rows.specs.RoundTables.{Final as KeptFinal, RoundTable, with_ride, traced, entry_of_final, entries_of}
 use Rattle.plain_laws.specs.Plain.{collect_below}
 use Rattle.plain_laws.proofs.Laws.{collect_below_more, collect_below_tells}
 use Rattle.round_table.specs.declared.finals.Final.{Final}
@@ -95,18 +94,6 @@ traced_more labels (suc n) number label parent ride taken part longer some at p 
       where
         nothing : traced (labels_of labels) (suc n) number ≡ None
         nothing = rw (there, p, r, t, broken) refl
-
--- a final that has an entry leads back
-pub final_traced : (labels : List Kept) (final : KeptFinal) (bag : ℕ → StopId → List ℕ) (finals : List KeptFinal) →
-    IsSome (entry_of_final (record { labels = labels; bag = bag; finals = finals }) final) → IsSome
-    (traced labels final.triple.rides final.label)
-final_traced labels final bag finals some = by (traced labels final.triple.rides final.label) some
-  where
-    by : (o : Option PartialJourney) → IsSome {T = Entry} (option_map
-        (λ part. record { triple = final.triple; journey = journey_to final.last part; choice = part.choice }) o) →
-        IsSome o
-    by None none = none
-    by (Some part) known = refl
 
 -- a place within a list has an item
 some_within : {X : Type 0} (xs : List X) (i : ℕ) → i < length xs → IsSome (slice_get xs i)
