@@ -1,7 +1,8 @@
 //! The answer of an audit.
-ghost use Rattle.std.specs.Prelude.{◌≡◌, ◌≤ℤ◌, ◌+ℤ◌, pos, negsuc, IfOk};
+ghost use Rattle.std.specs.Prelude.{◌≡◌, IfOk};
 ghost use Rattle.std.specs.Option.{option_copied};
 ghost use Rattle.commands.specs.Queries.{chosen_buyer};
+ghost use Rattle.fare_audit.specs.Audits.{AreAuditDays};
 ghost use Rattle.command_answers.specs.Due.{Task, task_by, DoTask};
 ghost use Rattle.command_answers.specs.Outcomes.{IsOutcome};
 ghost use Rattle.plan_words.specs.Request.{IsUsualAudit};
@@ -24,10 +25,7 @@ fn audit_text(
     first: Day,
     last: Day,
 ) -> Result<Text, AllocError>
-    requires low { negsuc 25_566 ≤ℤ first.0 }
-    requires high { last.0 ≤ℤ pos 376_199 }
-    requires ordered { first.0 ≤ℤ last.0 }
-    requires near { last.0 ≤ℤ (first.0 +ℤ pos 365) }
+    requires { AreAuditDays first.0 last.0 }
     ensures { IfOk result (DoTask (Task.Audits feed.now buyer first.0 last.0)) }
 {
     let report = audit(alloc, feed, buyer, first, last)?;

@@ -1,10 +1,14 @@
--- What holds of an audit that was built.
-use Rattle.std.specs.Prelude.{◌≤◌, ◌≤ℤ◌, pos, negsuc}
+-- What is asked of the days of an audit, and what holds of one that was built.
+use Rattle.std.specs.Prelude.{◌≤◌, ◌≤ℤ◌, ◌+ℤ◌, ℤ, pos, negsuc}
 use Rattle.fare_leg_rules.specs.BuiltLegRules.{AreLegRulesOf}
 use Rattle.fare_products.specs.BuiltProducts.{AreProductsOf}
 use Rattle.fare_timeframes.specs.BuiltTimeframes.{AreTimeframesOf}
 use Rattle.fare_audit.specs.declared.judge.Audit.TheInside.{Inside}
 use Rattle.fare_audit.specs.Found.{AuditOf}
+
+-- days from 1900 to 2999, of which the last is no earlier than the first, and at most 365 days later
+abbrev pub AreAuditDays : ℤ → ℤ → Type 0
+AreAuditDays first last = (negsuc 25_566 ≤ℤ first) × (last ≤ℤ pos 376_199) × (first ≤ℤ last) × (last ≤ℤ (first +ℤ pos 365))
 
 -- the fields as one record
 abbrev pub audit_inside : Inside → AuditOf

@@ -6,9 +6,10 @@
 //! and what was judged once is kept.
 #![tactic(auto)]
 
-ghost use Rattle.std.specs.Prelude.{◌≡◌, ◌≤◌, ◌≤ℤ◌, ◌+ℤ◌, ℤ, pos, negsuc, IfOk};
+ghost use Rattle.std.specs.Prelude.{◌≡◌, ◌≤◌, IfOk};
 ghost use Rattle.feed_calendar.specs.BuiltCalendar.{IsCalendarOf};
 ghost use Rattle.feed_rows.specs.FareGaps.{days_from, uncovered_pairs, idle_rules};
+ghost use Rattle.fare_audit.specs.Audits.{AreAuditDays};
 
 mod days;
 mod ends;
@@ -41,10 +42,7 @@ pub fn audit(
     first: Day,
     last: Day,
 ) -> Result<AuditReport, AllocError>
-    requires low { negsuc 25_566 ≤ℤ first.0 }
-    requires high { last.0 ≤ℤ pos 376_199 }
-    requires ordered { first.0 ≤ℤ last.0 }
-    requires near { last.0 ≤ℤ (first.0 +ℤ pos 365) }
+    requires { AreAuditDays first.0 last.0 }
     ensures gaps { IfOk result (λ report. report.gaps ≡ uncovered_pairs feed.now buyer first.0 last.0) }
     ensures idle { IfOk result (λ report. report.idle ≡ idle_rules feed.now first.0 last.0) }
 {
@@ -62,10 +60,7 @@ fn audit_by(
     last: Day,
 ) -> Result<AuditReport, AllocError>
     requires calendar { IsCalendarOf feed.now calendar.now }
-    requires low { negsuc 25_566 ≤ℤ first.0 }
-    requires high { last.0 ≤ℤ pos 376_199 }
-    requires ordered { first.0 ≤ℤ last.0 }
-    requires near { last.0 ≤ℤ (first.0 +ℤ pos 365) }
+    requires days { AreAuditDays first.0 last.0 }
     ensures gaps { IfOk result (λ report. report.gaps ≡ uncovered_pairs feed.now buyer first.0 last.0) }
     ensures idle { IfOk result (λ report. report.idle ≡ idle_rules feed.now first.0 last.0) }
 {
@@ -82,10 +77,7 @@ fn audit_by(
 
 /// How many days there are from the first to the last.
 fn days_between(first: Day, last: Day) -> u32
-    requires low { negsuc 25_566 ≤ℤ first.0 }
-    requires high { last.0 ≤ℤ pos 376_199 }
-    requires ordered { first.0 ≤ℤ last.0 }
-    requires near { last.0 ≤ℤ (first.0 +ℤ pos 365) }
+    requires { AreAuditDays first.0 last.0 }
     ensures value { result ≡ days_from first.0 last.0 }
     ensures few { result ≤ 366 }
 {
