@@ -1,8 +1,8 @@
 -- What an audit finds.
-use Rattle.std.proofs.Common.{◌≡◌, refl, sym, ◌∙◌, ap, subst, ℕ, ◌+◌, ◌<◌, ◌≤◌, ◌⊎◌, inl, inr, ⊎_elim, Bool, true, false, ◌&&◌, ◌==◌, List, [], ◌∷◌, ◌++◌, length, Contains, get_or, arith}
+use Rattle.std.proofs.Common.{◌≡◌, refl, sym, ◌∙◌, ap, subst, ℕ, ◌<◌, ◌≤◌, ◌⊎◌, inl, inr, ⊎_elim, Bool, true, false, ◌&&◌, List, length, Contains, get_or, arith}
 use Rattle.std.specs.Prelude.{Option, Some, None, slice_get, is_some, option_map}
 use Rattle.std.specs.List.{list_any}
-use Rattle.std.proofs.lemmas.Bool.{and_parts, and_from, false≢true}
+use Rattle.std.proofs.lemmas.Bool.{and_parts, and_from}
 use Rattle.std.proofs.lemmas.Option.{same_Some, slice_get_cases, slice_get_within}
 use Rattle.transit_base.specs.declared.numbers.ProductId.{ProductId}
 use Rattle.transit_base.specs.declared.numbers.ProductRowId.{ProductRowId}
@@ -22,13 +22,13 @@ use Rattle.feed_rows.specs.Legs.{leg_facts}
 use Rattle.feed_rows.specs.OpenRows.{least_open_row}
 use Rattle.feed_laws.proofs.OpenRowLaws.{least_open_row-none, least_open_row-some}
 use Rattle.plain_laws.specs.Plain.{at_and, filled_and}
-use Rattle.plain_laws.proofs.Laws.{Contains-picks_below, Contains-slice_get, any_passes, filled_and-true, list_any_tells, picks_below-tells, same_test, slice_get-Contains, some_value}
+use Rattle.plain_laws.proofs.Laws.{Contains-picks_below, Contains-slice_get, any_passes, filled_and-true, list_any_tells, picks_below-tells, same_test, slice_get-Contains}
 use Rattle.fare_audit.specs.declared.ends.End.{End}
 use Rattle.fare_audit.specs.declared.found.Found.{Found}
 use Rattle.fare_audit.specs.declared.found.Walk.{Walk}
-use Rattle.ride_cache.specs.Kept.{Holds, HoldsFor}
+use Rattle.ride_cache.specs.Kept.{HoldsFor}
 use Rattle.fare_timeframes.specs.Cuts.{AreLike}
-use Rattle.fare_audit.specs.Found.{AuditOf, AreNoted, CoversEnds, CoversPair, GrowsTo, HasLike, HasWalk, IsAudited, IsCovered, IsFound, IsGap, IsRight, IsUsed, IsWalk, MarksAll, StandsFor, is_marked, opens_rule, selects}
+use Rattle.fare_audit.specs.Found.{AuditOf, AreNoted, CoversEnds, CoversPair, GrowsTo, HasLike, HasWalk, IsCovered, IsFound, IsGap, IsRight, IsUsed, IsWalk, MarksAll, StandsFor, is_marked, opens_rule, selects}
 use Rattle.fare_audit.proofs.LikeLaws.{option_like, selects_like}
 
 -- a product has a least open row where it has an open one

@@ -1,24 +1,20 @@
 -- What rides of the days there are, as the definitions say it.
-use Rattle.std.proofs.Common.{◌≡◌, refl, sym, ◌∙◌, ap, subst, ℕ, ◌+◌, ◌<◌, Bool, true, false, ◌&&◌, ◌==◌, List, length, Contains, ℤ, pos, ◌+ℤ◌}
-use Rattle.std.specs.Prelude.{Option, Some, None, slice_get, not, nat_lt, int_le}
+use Rattle.std.proofs.Common.{◌≡◌, refl, sym, ◌∙◌, ap, subst, ◌+◌, ◌<◌, Bool, true, length, ℤ, pos, ◌+ℤ◌}
+use Rattle.std.specs.Prelude.{slice_get}
 use Rattle.std.specs.List.{list_any}
-use Rattle.std.proofs.lemmas.Bool.{and_from, and_parts}
-use Rattle.std.proofs.lemmas.Bool.Decides.{nat_tests}
 use Rattle.std.proofs.lemmas.Option.{slice_get_within}
 use Rattle.transit_base.specs.declared.calendar.Day.{Day}
-use Rattle.transit_base.specs.declared.numbers.StopId.{StopId}
 use Rattle.transit_base.specs.declared.numbers.TripId.{TripId}
 use Rattle.feed_rows.specs.declared.journeys.Ride.{Ride}
 use Rattle.feed_rows.specs.declared.journeys.RideFacts.{RideFacts}
 use Rattle.feed_rows.specs.Calls.{calls_of}
-use Rattle.feed_rows.specs.FareGaps.{days_from, has_option, is_unpaid_between, some_ride, some_ride_of_run}
+use Rattle.feed_rows.specs.FareGaps.{days_from, some_ride, some_ride_of_run}
 use Rattle.feed_rows.specs.FeedRows.{FeedRows}
-use Rattle.feed_rows.specs.Legs.{leg_facts}
 use Rattle.feed_rows.specs.Rides.{ride_facts, runs_on}
 use Rattle.feed_rows.specs.Shifts.{shifts_of}
 use Rattle.feed_laws.proofs.RideLaws.{ride_facts_tells}
 use Rattle.feed_laws.proofs.ShiftLaws.{Contains_from_found, list_any-shifts_of}
-use Rattle.plain_laws.specs.Plain.{any_below, filled_and}
+use Rattle.plain_laws.specs.Plain.{filled_and}
 use Rattle.plain_laws.proofs.Laws.{any_below_hit, any_below_tells, any_passes, filled_and-true, list_any_tells}
 use Rattle.fare_audit.specs.Found.{AuditOf, IsAudited}
 

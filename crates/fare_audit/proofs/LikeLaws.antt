@@ -1,11 +1,7 @@
 -- Stops, times and rides that fare rules see alike.
-use Rattle.std.proofs.Common.{◌≡◌, refl, sym, ◌∙◌, ap, subst, ℕ, ◌+◌, ◌-◌, ◌<◌, ◌≤◌, ◌⊎◌, inl, inr, ⊎_elim, Bool, true, false, ◌&&◌, ◌||◌, ◌==◌, List, [], ◌∷◌, length, All, Contains, ℤ, pos, ◌+ℤ◌, ◌-ℤ◌, arith}
-use Rattle.std.specs.Prelude.{Option, Some, None, nat_le, nat_lt, slice_get, not}
-use Rattle.std.specs.List.{list_any, list_all}
-use Rattle.std.proofs.lemmas.Bool.{cases_lt}
-use Rattle.std.proofs.lemmas.Bool.Decides.{nat_tests}
-use Rattle.std.proofs.lemmas.Int.{ints}
-use Rattle.transit_base.specs.Moments.{civil_day, moment_at, time_of_day}
+use Rattle.std.proofs.Common.{◌≡◌, refl, sym, ◌∙◌, ap, ℕ, Bool, ◌&&◌, List, pos}
+use Rattle.std.specs.Prelude.{Option, Some, None, slice_get}
+use Rattle.std.specs.List.{list_any}
 use Rattle.transit_base.specs.declared.numbers.AreaId.{AreaId}
 use Rattle.transit_base.specs.declared.numbers.FrameId.{FrameId}
 use Rattle.transit_base.specs.declared.numbers.NetworkId.{NetworkId}
@@ -17,11 +13,8 @@ use Rattle.feed_rows.specs.FareChoices.{is_open}
 use Rattle.feed_rows.specs.FareGaps.{has_option}
 use Rattle.feed_rows.specs.FeedRows.{FeedRows}
 use Rattle.feed_rows.specs.LegRules.{is_selected_rule, is_top_priority, rule_matches}
-use Rattle.feed_rows.specs.Legs.{frames_at, holds_at, is_within, leg_facts, stop_areas}
-use Rattle.feed_rows.specs.ServiceDays.{is_active}
-use Rattle.feed_laws.proofs.MomentLaws.{civil_day-moment_at, moment_at-parts, time_of_day_bound, time_of_day-moment_at}
-use Rattle.plain_laws.specs.Plain.{at_and}
-use Rattle.plain_laws.proofs.Laws.{list_any_same, picks_below-same, same_test}
+use Rattle.feed_rows.specs.Legs.{leg_facts}
+use Rattle.plain_laws.proofs.Laws.{list_any_same}
 use Rattle.fare_timeframes.specs.Cuts.{AreLike}
 use Rattle.fare_audit.specs.Found.{selects}
 

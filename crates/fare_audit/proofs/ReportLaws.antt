@@ -1,5 +1,5 @@
 -- What is found is what the definitions list.
-use Rattle.std.proofs.Common.{◌++◌, ◌∷◌, [], add-one, append-nil, ◌≡◌, refl, sym, ◌∙◌, ap, subst, ℕ, ◌+◌, ◌<◌, ◌≤◌, ◌⊎◌, inl, inr, ⊎_elim, Bool, true, false, ◌&&◌, ◌==◌, List, length, Contains, AllPairs, IsPermutation, ℤ, pos, ◌+ℤ◌, arith}
+use Rattle.std.proofs.Common.{◌++◌, ◌∷◌, [], add-one, append-nil, ◌≡◌, refl, sym, ◌∙◌, ap, subst, ℕ, ◌+◌, ◌<◌, ◌≤◌, ◌⊎◌, inl, inr, ⊎_elim, Bool, true, false, ◌&&◌, ◌==◌, List, length, Contains, AllPairs, IsPermutation, ℤ, arith}
 use Rattle.std.specs.Prelude.{Option, Some, None, slice_get, not}
 use Rattle.std.specs.List.{dedup}
 use Rattle.std.specs.List.Sorted.{IsSorted}
@@ -13,21 +13,19 @@ use Rattle.std.specs.declared.cmp.Ordering.{Ordering}
 use Rattle.std.specs.declared.cmp.Ordering.TheVariants.{Less}
 use Rattle.std.proofs.lemmas.Bool.{and_from, and_parts, cases_Bool, cases_lt, eq-eqb, eqb-true}
 use Rattle.std.proofs.lemmas.Bool.Decides.{nat_tests}
-use Rattle.std.proofs.lemmas.Option.{none-some, slice_get_within}
-use Rattle.feed_rows.specs.declared.journeys.Buyer.{Buyer}
+use Rattle.std.proofs.lemmas.Option.{none-some}
 use Rattle.transit_base.specs.declared.numbers.RuleId.{RuleId}
 use Rattle.transit_base.specs.declared.numbers.StopId.{StopId}
 use Rattle.feed_rows.specs.declared.journeys.Pair.{Pair}
 use Rattle.feed_rows.specs.declared.journeys.RideFacts.{RideFacts}
 use Rattle.feed_rows.specs.declared.rows.LegRuleRow.{LegRuleRow}
 use Rattle.feed_rows.specs.FareGaps.{days_from, has_option, idle_rules, is_unpaid_between, is_used_rule, some_ride, uncovered_pairs}
-use Rattle.feed_rows.specs.FeedRows.{FeedRows}
 use Rattle.feed_rows.specs.LegRules.{is_selected_rule}
 use Rattle.feed_rows.specs.Legs.{leg_facts}
-use Rattle.plain_laws.specs.Plain.{at_and, filled_and, joined_below, picks_below}
-use Rattle.plain_laws.proofs.Laws.{AllPairs-joined_below, AllPairs-picks_below, Contains-joined_below, Contains-picks_below, HaveSameMembers, IsStrictOrder, filled_and-true, joined_below-tells, picks_below-same, picks_below-tells, same_from_members, same_test, number_equal, then_equal}
+use Rattle.plain_laws.specs.Plain.{filled_and, joined_below, picks_below}
+use Rattle.plain_laws.proofs.Laws.{AllPairs-joined_below, AllPairs-picks_below, Contains-joined_below, Contains-picks_below, IsStrictOrder, joined_below-tells, picks_below-same, picks_below-tells, same_from_members, same_test, number_equal, then_equal}
 use Rattle.fare_audit.specs.declared.found.Found.{Found}
-use Rattle.fare_audit.specs.Found.{AuditOf, IsAudited, IsCovered, IsFound, IsGap, IsUsed, is_marked, selects}
+use Rattle.fare_audit.specs.Found.{AuditOf, IsAudited, IsCovered, IsFound, IsGap, is_marked}
 use Rattle.fare_audit.specs.Reports.{ArePairsInOrder, ComesBefore, are_unused}
 use Rattle.fare_audit.proofs.FoundLaws.{item_at, pair_equal}
 use Rattle.fare_audit.proofs.GapLaws.{some_from, some_tells}

@@ -1,13 +1,12 @@
 -- The rides of runs, and which of them are covered.
-use Rattle.std.proofs.Common.{◌≡◌, refl, sym, ◌∙◌, ap, subst, ℕ, ◌+◌, ◌<◌, ◌≤◌, ◌⊎◌, inl, inr, ⊎_elim, Bool, true, false, ◌&&◌, List, length, Contains, ℤ, pos, ◌+ℤ◌, ◌-ℤ◌, ◌≤ℤ◌, ◌<ℤ◌, ◌++◌, ◌∷◌, [], All, get_or, take, negsuc, arith}
-use Rattle.std.specs.Prelude.{Option, Some, None, slice_get, nat_lt}
+use Rattle.std.proofs.Common.{◌≡◌, refl, sym, ◌∙◌, ap, subst, ℕ, ◌+◌, ◌<◌, ◌≤◌, ◌⊎◌, ⊎_elim, true, false, List, length, Contains, ℤ, pos, ◌+ℤ◌, ◌-ℤ◌, ◌≤ℤ◌, ◌<ℤ◌, ◌++◌, ◌∷◌, [], All, get_or, take, negsuc, arith}
+use Rattle.std.specs.Prelude.{Option, Some, slice_get, nat_lt}
 use Rattle.std.proofs.lemmas.Bool.{and_from, cases_lt, false≢true}
 use Rattle.std.proofs.lemmas.Bool.Decides.{nat_tests}
 use Rattle.std.proofs.lemmas.Int.{ints}
 use Rattle.std.proofs.lemmas.Option.{get_or_from_slice_get, same_Some, slice_get-get_or, slice_get_within}
 use Rattle.std.proofs.lemmas.List.Elements.{All-contains, All-push, Contains-get_or, Contains-push_cases}
 use Rattle.transit_base.specs.declared.numbers.TripId.{TripId}
-use Rattle.transit_base.specs.declared.calendar.Day.{Day}
 use Rattle.transit_base.specs.declared.numbers.NetworkId.{NetworkId}
 use Rattle.transit_base.specs.declared.numbers.ServiceId.{ServiceId}
 use Rattle.transit_base.specs.declared.numbers.StopId.{StopId}
@@ -29,9 +28,9 @@ use Rattle.feed_rows.specs.Rides.{facts_between, is_ride, moment_of, ride_facts,
 use Rattle.feed_rows.specs.Legs.{frames_at}
 use Rattle.transit_base.specs.Moments.{moment_at}
 use Rattle.feed_rows.specs.Shifts.{is_shift, shifts_of}
-use Rattle.feed_laws.proofs.RideLaws.{IsRideWith, is_ride_by_shift, ride_facts_tells}
+use Rattle.feed_laws.proofs.RideLaws.{is_ride_by_shift, ride_facts_tells}
 use Rattle.feed_laws.proofs.ShiftLaws.{Contains_from_found, found_from_Contains, is_shift_bounds, list_any-shifts_of}
-use Rattle.plain_laws.specs.Plain.{at_and, filled_and}
+use Rattle.plain_laws.specs.Plain.{filled_and}
 use Rattle.plain_laws.proofs.Laws.{Contains-slice_get, slice_get-new_item, slice_get-old_item}
 use Rattle.std.proofs.lemmas.List.{length_push, take_more}
 use Rattle.fare_audit.specs.declared.days.Reach.{Reach}

@@ -1,18 +1,13 @@
 -- Lists in which one place is written.
-use Rattle.std.proofs.Common.{◌≡◌, refl, sym, ◌∙◌, ap, subst, ℕ, zero, suc, ◌+◌, ◌-◌, ◌<◌, ◌≤◌, ◌⊎◌, inl, inr, ⊎_elim, Bool, true, false, ◌==◌, List, [], ◌∷◌, ◌++◌, length, get_or, set, take, replicate, drop, append-nil, take_all, Contains, arith}
-use Rattle.std.specs.Prelude.{Option, Some, None, slice_get, leb}
-use Rattle.std.specs.List.{AllWithin}
-use Rattle.std.specs.List.Sorted.{IsNonDecreasingBy}
-use Rattle.std.proofs.lemmas.Bool.{cases_eq, cases_lt, leb-true, false≢true}
-use Rattle.std.proofs.lemmas.Bool.Decides.{nat_tests}
-use Rattle.std.proofs.lemmas.List.{get_or-replicate, get_or-set_other, get_or-set_same, length-drop, length-replicate, length-set}
+use Rattle.std.proofs.Common.{◌≡◌, refl, sym, ◌∙◌, ap, subst, ℕ, zero, suc, ◌+◌, ◌-◌, ◌<◌, ◌≤◌, ◌⊎◌, inl, inr, ⊎_elim, Bool, true, false, List, [], ◌∷◌, ◌++◌, length, get_or, set, take, replicate, drop, Contains, arith}
+use Rattle.std.specs.Prelude.{slice_get}
+use Rattle.std.proofs.lemmas.Bool.{cases_eq, cases_lt, false≢true}
+use Rattle.std.proofs.lemmas.List.{get_or-replicate, get_or-set_other, get_or-set_same, length-replicate, length-set}
 use Rattle.std.proofs.lemmas.List.Elements.{Contains-append_left, Contains-push, Contains-push_cases}
-use Rattle.std.proofs.lemmas.Option.{none-some, get_or_from_slice_get, slice_get-get_or, slice_get_past, slice_get_within}
+use Rattle.std.proofs.lemmas.Option.{slice_get-get_or, slice_get_past}
 use Rattle.transit_base.specs.declared.numbers.RuleId.{RuleId}
-use Rattle.feed_rows.specs.declared.rows.TimeframeRow.{TimeframeRow}
 use Rattle.ride_cache.proofs.PlaceLaws.{written}
-use Rattle.plain_laws.specs.Plain.{at_and, filled_and}
-use Rattle.plain_laws.proofs.Laws.{no_item}
+use Rattle.plain_laws.specs.Plain.{filled_and}
 use Rattle.fare_audit.specs.Found.{MarksAll, is_marked}
 
 get_or_past : (xs : List Bool) (n : ℕ) → length xs ≤ n → get_or xs n false ≡ false

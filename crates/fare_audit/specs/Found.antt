@@ -1,6 +1,5 @@
 -- What an audit has found so far, and which rides that covers.
-use Rattle.std.specs.Prelude.{◌≡◌, ◌<◌, ◌⊎◌, ℕ, Bool, true, false, List, length, Option, Some, None, slice_get, All, Contains, ℤ, pos, ◌+ℤ◌}
-use Rattle.std.specs.Option.{ForSome}
+use Rattle.std.specs.Prelude.{◌≡◌, ◌<◌, ◌⊎◌, ℕ, Bool, true, false, List, length, Option, Some, slice_get, Contains, ℤ, pos, ◌+ℤ◌}
 use Rattle.std.specs.List.{list_any}
 use Rattle.transit_base.specs.declared.numbers.NetworkId.{NetworkId}
 use Rattle.feed_rows.specs.declared.journeys.Buyer.{Buyer}

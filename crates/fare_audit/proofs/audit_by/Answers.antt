@@ -1,4 +1,4 @@
-use Rattle.std.proofs.Common.{◌≡◌, ◌∙◌, sym, ap, subst, length, ℤ}
+use Rattle.std.proofs.Common.{◌≡◌, ◌∙◌, sym, ap, subst, length}
 use Rattle.std.proofs.lemmas.Result.{IfOk-weaker}
 use Rattle.feed_rows.specs.FareGaps.{days_from, idle_rules, uncovered_pairs}
 use Rattle.feed_rows.specs.FeedRows.{FeedRows}

@@ -1,4 +1,4 @@
-use Rattle.std.proofs.Common.{◌≡◌, ◌∙◌, ap, length, ◌+◌}
+use Rattle.std.proofs.Common.{◌∙◌, ap, length, ◌+◌}
 use Rattle.std.proofs.lemmas.List.{length_push}
 use Rattle.std.proofs.lemmas.Option.{none-some}
 use Rattle.fare_audit.proofs.DayLaws.{kinds_more}

@@ -1,4 +1,4 @@
-use Rattle.std.proofs.Common.{◌∙◌, sym, ap, subst, refl, get_or, ℕ, List, take_all, take, ◌+◌, Contains, pos, ◌+ℤ◌}
+use Rattle.std.proofs.Common.{subst, get_or, ℕ, List, take_all, take, ◌+◌, Contains, pos, ◌+ℤ◌}
 use Rattle.std.proofs.lemmas.List.{take_more}
 use Rattle.fare_audit.specs.Days.{AreAlike, ArePicked}
 use Rattle.fare_audit.proofs.DayLaws.{picked_before, picked_more, picked_none}

@@ -1,4 +1,4 @@
-use Rattle.std.proofs.Common.{◌≡◌, ◌∙◌, sym, ap, arith, take_all}
+use Rattle.std.proofs.Common.{◌∙◌, sym, arith, take_all}
 use Rattle.fare_audit.proofs.RunLaws.{same_more}
 use Rattle.fare_audit.proofs.ends.are_same_ends.Goals as goal
 

@@ -1,4 +1,4 @@
-use Rattle.std.proofs.Common.{◌≡◌, [], Contains, ap, sym, ◌∙◌, ⊎_elim}
+use Rattle.std.proofs.Common.{Contains, ap, sym, ◌∙◌, ⊎_elim}
 use Rattle.std.proofs.lemmas.List.Elements.{Contains-push_cases}
 use Rattle.fare_audit.specs.declared.found.Walk.{Walk}
 use Rattle.fare_audit.proofs.found.no_walks.Goals as goal

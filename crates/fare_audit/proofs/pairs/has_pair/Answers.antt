@@ -1,4 +1,4 @@
-use Rattle.std.proofs.Common.{◌≡◌, subst}
+use Rattle.std.proofs.Common.{subst}
 use Rattle.std.proofs.lemmas.Bool.{eqb-true}
 use Rattle.ride_cache.specs.Kept.{Holds}
 use Rattle.fare_audit.proofs.FoundLaws.{pair_equal}

@@ -1,4 +1,4 @@
-use Rattle.std.proofs.Common.{◌≡◌, ◌∙◌, sym, ap, ℕ, List, ◌++◌, ◌∷◌, []}
+use Rattle.std.proofs.Common.{◌∙◌, ap, ℕ, ◌++◌, ◌∷◌, []}
 use Rattle.transit_base.specs.declared.numbers.RuleId.{RuleId}
 use Rattle.fare_audit.proofs.SetLaws.{marked_is}
 use Rattle.fare_audit.proofs.ReportLaws.{unused_less, unused_more}

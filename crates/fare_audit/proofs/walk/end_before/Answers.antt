@@ -1,4 +1,4 @@
-use Rattle.std.proofs.Common.{◌≡◌, All, ℤ, subst, take, take_all, arith}
+use Rattle.std.proofs.Common.{All, ℤ, subst, take_all, arith}
 use mir.Syntax.{w64}
 use mir.Val.{of_z, to_z}
 use Rattle.std.proofs.lemmas.Int.{to_z-of_z}

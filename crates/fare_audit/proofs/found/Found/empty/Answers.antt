@@ -1,4 +1,4 @@
-use Rattle.std.proofs.Common.{◌≡◌, ◌∙◌, Contains, sym, ap, length, false}
+use Rattle.std.proofs.Common.{◌∙◌, sym, ap, length, false}
 use Rattle.std.proofs.lemmas.List.{length-replicate}
 use Rattle.std.proofs.lemmas.Option.{none-some}
 use Rattle.fare_audit.proofs.SetLaws.{none_in, none_marked}

@@ -1,4 +1,4 @@
-use Rattle.std.proofs.Common.{◌≡◌, ◌∙◌, sym, ap, Some, subst, Contains}
+use Rattle.std.proofs.Common.{◌∙◌, sym, ap, Some, subst, Contains}
 use Rattle.std.proofs.lemmas.Option.{slice_get-get_or}
 use Rattle.plain_laws.proofs.Laws.{Contains-slice_get}
 use Rattle.fare_audit.proofs.found.Found.is_walked.Goals as goal

@@ -1,4 +1,4 @@
-use Rattle.std.proofs.Common.{◌≡◌, ◌⊎◌, inl, inr, ⊎_elim, Contains, ap, sym, arith, ◌∙◌}
+use Rattle.std.proofs.Common.{◌⊎◌, inl, inr, ⊎_elim, Contains, ap, sym, arith, ◌∙◌}
 use Rattle.ride_cache.proofs.PlaceLaws.{contains_set}
 use Rattle.fare_audit.specs.declared.found.Walk.{Walk}
 use Rattle.fare_audit.specs.Found.{IsWalk}

@@ -1,7 +1,7 @@
-use Rattle.std.proofs.Common.{◌≡◌, ◌∙◌, sym, ap, subst, refl, List, Bool}
+use Rattle.std.proofs.Common.{◌∙◌, sym, ap, Bool}
 use Rattle.std.proofs.Common.{Vec, Global}
 use Rattle.std.proofs.lemmas.Bool.{false≢true}
-use Rattle.fare_audit.specs.Found.{GrowsTo, is_marked}
+use Rattle.fare_audit.specs.Found.{is_marked}
 use Rattle.fare_audit.proofs.FoundLaws.{covered_by_judgement, gap_here, grows_on, noted_found}
 use Rattle.fare_audit.proofs.judge.Audit.add_ride.Goals as goal
 

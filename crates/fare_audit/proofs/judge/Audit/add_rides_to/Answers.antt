@@ -1,6 +1,5 @@
-use Rattle.std.proofs.Common.{◌≡◌, ℕ, ◌<◌, refl, subst, arith, ap, sym, ◌∙◌, Some}
+use Rattle.std.proofs.Common.{refl, arith}
 use Rattle.std.proofs.lemmas.Option.{slice_get-get_or}
-use Rattle.fare_audit.specs.declared.ends.End.{End}
 use Rattle.fare_audit.specs.Found.{CoversPair}
 use Rattle.fare_audit.proofs.FoundLaws.{grows_itself, grows_on, pair_later}
 use Rattle.fare_audit.proofs.RunLaws.{below_more, no_end, none_boards, pair_covered, ride_there}

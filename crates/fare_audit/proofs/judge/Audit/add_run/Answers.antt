@@ -1,9 +1,7 @@
-use Rattle.std.proofs.Common.{◌≡◌, ℕ, ◌<◌, refl, subst, arith, ap, sym, ◌∙◌, Some}
-use Rattle.std.specs.Prelude.{Option}
+use Rattle.std.proofs.Common.{ℕ, ◌<◌, refl, arith, ap, sym, ◌∙◌}
 use Rattle.std.proofs.lemmas.Option.{same_Some, slice_get-get_or}
-use Rattle.transit_base.specs.declared.numbers.NetworkId.{NetworkId}
 use Rattle.fare_audit.specs.declared.ends.End.{End}
-use Rattle.fare_audit.specs.Found.{CoversEnds, CoversPair}
+use Rattle.fare_audit.specs.Found.{CoversPair}
 use Rattle.fare_audit.proofs.FoundLaws.{ends_later, grows_itself, grows_on, grows_same, pair_later, walked_covers, walked_found}
 use Rattle.fare_audit.proofs.RunLaws.{below_more, ends_covered, no_end, none_alights, run_covered}
 use Rattle.fare_audit.proofs.judge.Audit.add_run.Goals.{then-ends-to+in_ok-add_rides_to, else-ends-to}

@@ -1,20 +1,18 @@
-use Rattle.std.proofs.Common.{◌≡◌, ◌∙◌, ℕ, ◌<◌, ℤ, true, pos, ◌+ℤ◌, ◌≤ℤ◌, List, Contains, All, get_or, refl, subst, take, take_all, arith, ap, sym}
+use Rattle.std.proofs.Common.{◌∙◌, ℕ, ℤ, true, pos, ◌+ℤ◌, ◌≤ℤ◌, List, Contains, get_or, subst, take, take_all, ap, sym}
 use mir.Syntax.{w64}
 use mir.Val.{of_z, to_z}
 use Rattle.std.proofs.lemmas.Int.{to_z-of_z}
 use Rattle.std.proofs.lemmas.List.{get_or_default, take_more}
-use Rattle.std.proofs.lemmas.List.Elements.{All-contains, Contains-get_or}
-use Rattle.transit_base.specs.declared.calendar.Day.{Day}
 use Rattle.feed_rows.specs.declared.rows.TripRow.{TripRow}
 use Rattle.feed_rows.specs.Calls.{calls_of}
 use Rattle.feed_rows.specs.FeedRows.{FeedRows}
 use Rattle.feed_rows.specs.Limits.{least_shift, most_shift}
-use Rattle.feed_rows.specs.Rides.{runs_on, trip_network}
+use Rattle.feed_rows.specs.Rides.{trip_network}
 use Rattle.feed_rows.specs.ServiceDays.{is_active}
 use Rattle.feed_rows.specs.Shifts.{shifts_of}
 use Rattle.fare_audit.specs.Days.{AreWithin}
 use Rattle.fare_audit.specs.Runs.{CoversRun, CoversShift}
-use Rattle.fare_audit.proofs.FoundLaws.{grows_itself, grows_on}
+use Rattle.fare_audit.proofs.FoundLaws.{grows_on}
 use Rattle.fare_audit.proofs.RunLaws.{active_at, among_more, near_run, run_later, runs_by_service, shift_covered, shift_near, trip_service}
 use Rattle.fare_audit.proofs.judge.Audit.add_shift.Goals as goal
 

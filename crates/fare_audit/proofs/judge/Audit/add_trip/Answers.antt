@@ -1,4 +1,4 @@
-use Rattle.std.proofs.Common.{◌≡◌, ◌∙◌, ℤ, List, Contains, pos, get_or, refl, subst, take, take_all, ◌++◌, ◌∷◌, [], arith, ap, sym, rules}
+use Rattle.std.proofs.Common.{◌∙◌, ℤ, List, Contains, pos, get_or, subst, take, take_all, ◌++◌, ◌∷◌, [], arith, ap, sym, rules}
 use mir.Syntax.{w64}
 use mir.Val.{SFits, of_z, to_z}
 use Rattle.std.proofs.lemmas.Int.{to_z-of_z}

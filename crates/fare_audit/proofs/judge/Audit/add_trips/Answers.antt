@@ -1,4 +1,4 @@
-use Rattle.std.proofs.Common.{ℕ, ◌<◌, ◌≡◌, ◌∙◌, refl, subst, arith, ap, length, sym}
+use Rattle.std.proofs.Common.{◌∙◌, refl, arith, ap, length}
 use Rattle.feed_rows.specs.FeedRows.{FeedRows}
 use Rattle.fare_audit.specs.Runs.{CoversTrip}
 use Rattle.fare_audit.proofs.RunLaws.{below_more, trip_later}

@@ -2,7 +2,6 @@ use Rattle.std.proofs.Common.{◌≡◌, ◌∙◌, ap, refl, rules, ℤ, pos, �
 use mir.Syntax.{w64}
 use mir.Val.{SFits}
 use Rattle.transit_base.specs.Moments.{moment_at}
-use Rattle.transit_base.specs.declared.moments.Moment.{Moment}
 use Rattle.feed_rows.specs.Legs.{frames_at}
 use Rattle.fare_audit.specs.Runs.{run_moment}
 use Rattle.fare_audit.proofs.SignedLaws.{told_sum}

@@ -1,8 +1,5 @@
-use Rattle.std.proofs.Common.{◌≡◌, ◌∙◌, ap, subst, sym, length, arith, ℕ, Some, ◌+◌}
-use Rattle.std.specs.Prelude.{slice_get}
+use Rattle.std.proofs.Common.{◌∙◌, ap, length, arith, ◌+◌}
 use Rattle.std.proofs.lemmas.List.{length_push}
-use Rattle.feed_rows.specs.declared.journeys.Call.{Call}
-use Rattle.fare_audit.specs.declared.ends.End.{End}
 use Rattle.fare_audit.proofs.RunLaws.{ends_more}
 use Rattle.fare_audit.proofs.judge.Audit.ends_of.Goals as goal
 

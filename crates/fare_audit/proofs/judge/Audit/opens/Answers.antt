@@ -1,12 +1,12 @@
-use Rattle.std.proofs.Common.{◌≡◌, ◌∙◌, sym, ap, subst, Some, None, false}
-use Rattle.std.specs.Prelude.{slice_get, is_some, option_map}
+use Rattle.std.proofs.Common.{◌≡◌, ◌∙◌, sym, ap, subst, Some, None}
+use Rattle.std.specs.Prelude.{slice_get, is_some}
 use Rattle.std.specs.List.{list_any}
 use Rattle.std.proofs.lemmas.Option.{slice_get-get_or, slice_get_past}
 use Rattle.feed_rows.specs.FareChoices.{is_open}
 use Rattle.feed_rows.specs.FeedRows.{FeedRows}
 use Rattle.feed_rows.specs.declared.rows.LegRuleRow.{LegRuleRow}
 use Rattle.plain_laws.specs.Plain.{filled_and}
-use Rattle.fare_audit.specs.Found.{AuditOf, opens_rule}
+use Rattle.fare_audit.specs.Found.{AuditOf}
 use Rattle.fare_audit.proofs.FoundLaws.{least_is_some, some_mapped}
 use Rattle.fare_audit.proofs.judge.Audit.opens.Goals as goal
 
