@@ -1,4 +1,4 @@
-use Rattle.std.proofs.Common.{◌≡◌, sym, ap, subst, ℕ, ◌<◌, ◌≤◌, length, leb, false, rules, arith, refl, List}
+use Rattle.std.proofs.Common.{◌≡◌, subst, ℕ, length, leb, false, rules, arith, refl}
 use Rattle.std.specs.List.{AllWithin}
 use Rattle.std.proofs.lemmas.List.Sorted.{IsPartitionPoint-from_clause, IsPartitionedBy-leb}
 use Rattle.fare_timeframes.proofs.CutLaws.{cut_at, cut_none}

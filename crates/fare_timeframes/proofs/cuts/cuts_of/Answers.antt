@@ -1,6 +1,5 @@
-use Rattle.std.proofs.Common.{◌≡◌, ◌∙◌, sym, ap, subst, rules, List, take, take_all, Contains, get_or, ⊎_elim, ◌⊎◌, ℕ}
+use Rattle.std.proofs.Common.{◌∙◌, sym, ap, subst, rules, List, take, take_all, Contains, get_or, ℕ}
 use Rattle.std.proofs.lemmas.List.{take_more}
-use Rattle.std.proofs.lemmas.List.Elements.{Contains-append_left, Contains-push, Contains-push_cases}
 use Rattle.std.proofs.lemmas.List.Sorted.{Contains-permutation, IsNonDecreasingBy-from_sort_by_key}
 use Rattle.feed_rows.specs.declared.rows.TimeframeRow.{TimeframeRow}
 use Rattle.feed_rows.specs.FeedRows.{FeedRows}

@@ -1,4 +1,4 @@
-use Rattle.std.proofs.Common.{◌∙◌, length, subst, sym, arith}
+use Rattle.std.proofs.Common.{◌∙◌, subst, sym, arith}
 use Rattle.std.specs.Prelude.{All}
 use Rattle.plan_rides.specs.Departures.{IsRunOf}
 use Rattle.plan_rides.proofs.BoardLaws.{patterns_all, patterns_more, patterns_none}

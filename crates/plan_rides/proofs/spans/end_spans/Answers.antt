@@ -1,8 +1,7 @@
-use Rattle.std.proofs.Common.{◌≡◌, ◌≤◌, ◌+◌, sym, ◌∙◌, ap, subst, length, arith}
+use Rattle.std.proofs.Common.{◌+◌, sym, ◌∙◌, ap, subst, length, arith}
 use Rattle.std.specs.Prelude.{None, slice_get, unwrap_or}
 use Rattle.std.proofs.lemmas.List.{length_push}
 use Rattle.feed_rows.specs.FeedRows.{FeedRows}
-use Rattle.feed_rows.specs.declared.journeys.Query.{Query}
 use Rattle.plan_rides.specs.Spans.{IsEndSpan}
 use Rattle.plan_rides.proofs.SpanLaws.{end_spans, spans_more}
 use Rattle.plan_rides.proofs.spans.end_spans.Goals as goal

@@ -1,4 +1,4 @@
-use Rattle.std.proofs.Common.{◌≡◌, ◌∙◌, ◌≤ℤ◌, pos, sym, arith}
+use Rattle.std.proofs.Common.{◌≡◌, ◌∙◌, pos, sym, arith}
 use Rattle.std.proofs.lemmas.Int.{ints}
 use Rattle.std.proofs.lemmas.Option.{none-some, same_Some}
 use Rattle.plan_rides.proofs.spans.span_to.Goals as goal

@@ -1,7 +1,5 @@
-use Rattle.std.proofs.Common.{◌≡◌, ◌∙◌, ap, sym, false, true, inl, inr, length}
-use Rattle.std.specs.Prelude.{count_by}
-use Rattle.std.specs.List.{list_all}
-use Rattle.commands.specs.CommandWords.{is_positional, is_taken, role_at}
+use Rattle.std.proofs.Common.{◌≡◌, ◌∙◌, sym, false, true, inl, inr, length}
+use Rattle.commands.specs.CommandWords.{is_taken, role_at}
 use Rattle.commands.specs.Table.{form_of}
 use Rattle.plain_laws.specs.Plain.{all_below}
 use Rattle.plan_words.specs.Words.{behind}

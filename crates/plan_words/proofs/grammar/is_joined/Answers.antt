@@ -1,12 +1,11 @@
-use Rattle.std.proofs.Common.{◌≡◌, ◌∙◌, ap, Bool, rules, tests}
-use Rattle.std.specs.Prelude.{◌&&◌, ◌||◌, bytes_eq, is_some, not}
+use Rattle.std.proofs.Common.{◌∙◌, ap, Bool, rules, tests}
+use Rattle.std.specs.Prelude.{◌&&◌, is_some}
 use Rattle.std.specs.List.{list_any}
 use Rattle.std.proofs.lemmas.Iterator.{YieldsList-from_slice}
 use Rattle.std.proofs.lemmas.Iterator.Search.{any_from_yields_List}
-use Rattle.commands.specs.CommandWords.{is_single_flag, is_single_option, joined_value}
+use Rattle.commands.specs.CommandWords.{joined_value}
 use Rattle.commands.specs.Table.{has_value, option_text, options_of}
 use Rattle.commands.specs.declared.table.CommandOption.{CommandOption}
-use Rattle.plan_words.specs.Words.{behind}
 use Rattle.plan_words.proofs.TableLaws.{joins_option}
 use Rattle.plan_words.proofs.grammar.is_joined.Goals as goal
 

@@ -1,4 +1,4 @@
-use Rattle.std.proofs.Common.{◌≡◌, ◌∙◌, ap, refl, subst, sym, get_or, pos}
+use Rattle.std.proofs.Common.{◌≡◌, ◌∙◌, refl, subst, sym, get_or, pos}
 use Rattle.std.specs.Prelude.{None, Some}
 use Rattle.feed_rows.specs.JourneyStands.{way_to}
 use Rattle.feed_timetable.specs.Standings.{stand_of}
