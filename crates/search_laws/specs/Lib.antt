@@ -1,0 +1,4 @@
+pub mod Ways
+pub mod Links
+pub mod Cuts
+pub mod Stores
