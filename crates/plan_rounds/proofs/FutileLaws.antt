@@ -3,13 +3,12 @@ use Rattle.std.proofs.Common.{◌≡◌, length, subst, ◌≤◌, ◌+◌, sym,
 use Rattle.std.specs.Prelude.{Bool, ◌||◌, [], ◌∷◌, Contains, int_le, slice_get, false}
 use Rattle.std.specs.List.{list_any}
 use Rattle.std.proofs.lemmas.Int.{ints}
-use Rattle.std.proofs.lemmas.Bool.{both_ways, cases_lt, and_parts, false_from_ne_true, ne_eqb}
+use Rattle.std.proofs.lemmas.Bool.{both_ways, cases_lt, and_parts, ne_eqb}
 use Rattle.std.proofs.lemmas.List.Folds.{list_any-from_Any}
 use Rattle.std.proofs.lemmas.Option.{same_Some, slice_get_within}
 use Rattle.feed_rows.specs.declared.fares.Triple.{Triple}
 use Rattle.feed_rows.specs.declared.journeys.RideFacts.{RideFacts}
 use Rattle.feed_rows.specs.declared.states.Move.{Move}
-use Rattle.feed_rows.specs.FareFloor.{is_outdone}
 use Rattle.feed_rows.specs.FareSteps.{move_after}
 use Rattle.feed_rows.specs.LabelCover.{Covers}
 use Rattle.feed_rows.specs.Legs.{leg_facts}
@@ -21,25 +20,28 @@ use Rattle.feed_laws.proofs.ParetoLaws.{at_most-refl, at_most-trans}
 use Rattle.plain_laws.proofs.Laws.{list_any_tells, int_le-true, slice_get-Contains}
 use Rattle.plan_rides.specs.InTime.{IsRight}
 use Rattle.plan_rides.specs.declared.caught.CaughtRide.{CaughtRide}
-use Rattle.round_laws.specs.Futility.{MayLack, is_within, least_end}
-use Rattle.round_laws.specs.LabelSteps.{facts_after, IsStated}
+use Rattle.search_laws.specs.Cuts.{MayLack}
+use Rattle.search_laws.specs.Stores.{IsUncut}
+use Rattle.search_laws.specs.Ways.{IsUpward}
+use Rattle.search_laws.proofs.CutLaws.{lack_below, lack_more}
+use Rattle.round_laws.specs.Futility.{is_within, least_end, outdoes}
+use Rattle.round_laws.specs.LabelSteps.{facts_after, ways, IsStated}
 use Rattle.round_laws.proofs.BoundLaws.{ahead_of_ride}
-use Rattle.round_laws.proofs.FutilityLaws.{IsUpward, lack_more}
-use Rattle.round_laws.proofs.OutdoneLaws.{ahead_of_outdone, ahead_lacks, lack_below}
+use Rattle.round_laws.proofs.OutdoneLaws.{ahead_of_outdone, ahead_lacks, outdone_below}
 use Rattle.round_table.specs.declared.finals.Final.{Final}
 use Rattle.round_labels.specs.declared.label.Label.{Label}
 use Rattle.round_table.specs.Finals.{HasEnds, is_bettered}
 use Rattle.round_table.specs.Tables.{is_given}
 use Rattle.round_labels.specs.Labels.{facts_of, stand_of_label}
 use Rattle.plan_rounds.specs.Searched.{Searched, IsFoundBy, Lacks, has_ahead, is_overtaken_by}
-use Rattle.plan_rounds.specs.Stores.{IsHeldBelow, IsPrunedBy, StepsBy}
+use Rattle.plan_rounds.specs.Stores.{IsHeldBelow, StepsBy, round_search}
 use Rattle.plan_rounds.specs.declared.search.Source.{Source}
 use Rattle.plan_rounds.specs.Moves.{AreMovesOf, betters, HasBetter}
 use Rattle.round_labels.specs.CoverLaws.{same_parts-equal}
 use Rattle.round_labels.specs.Labels.{same_parts}
 use Rattle.plan_rounds.specs.Sources.{SpreadsFrom, LeadsByFirst}
 use Rattle.plan_rounds.proofs.FinalSteps.{bettered_up}
-use Rattle.round_laws.proofs.CoverLaws.{covers-trans}
+use Rattle.round_laws.proofs.CoverLaws.{covers-trans, lawful}
 use Rattle.round_laws.proofs.IntLaws.{as_much}
 
 -- ---- what is found
@@ -64,7 +66,7 @@ given_up (x ∷ xs) s t h le =
     grind (arith, rest, step)
 
 -- where one triple is found, so is each that it is at most
-pub found_up : (task : Searched) (finals : List Final) → IsUpward (IsFoundBy task finals)
+pub found_up : (task : Searched) (finals : List Final) → IsUpward (ways task.feed task.query) (IsFoundBy task finals)
 found_up task finals s t below (inl by_final) = inl (bettered_up finals s t by_final below)
 found_up task finals s t below (inr by_given) = inr (given_up task.given s t by_given below)
 
@@ -78,13 +80,16 @@ found_more task old new still t (inr by_given) = inr by_given
 pub lacks_more : (task : Searched) (old new : List Final) → ((t : Triple) → is_bettered old t → is_bettered new t) → (b : LabelFacts) →
     Lacks task old b → Lacks task new b
 lacks_more task old new still b lack strict =
-    lack_more task.feed task.query task.whole (IsFoundBy task old) (IsFoundBy task new) b (found_more task old new still) (lack strict)
+    lack_more (ways task.feed task.query) (outdoes task.feed task.query) task.whole (IsFoundBy task old) (IsFoundBy task new) b
+    (found_more task old new still) (lack strict)
 
 -- what may be lacking may be wherever it is covered
-pub lacks_below : (task : Searched) (finals : List Final) (a b : LabelFacts) → IsStated a → IsStated b → Covers a b → Lacks task finals a →
-    Lacks task finals b
+pub lacks_below : (task : Searched) (finals : List Final) (a b : LabelFacts) → IsStated a → IsStated b → Covers a b →
+    Lacks task finals a → Lacks task finals b
 lacks_below task finals a b stated stated' covers lack strict =
-    lack_below task.feed task.query (IsFoundBy task finals) (found_up task finals) task.whole a b stated stated' covers (lack strict)
+    lack_below (ways task.feed task.query) (lawful task.feed task.query) (outdoes task.feed task.query)
+    (outdone_below task.feed task.query) (IsFoundBy task finals) (found_up task finals) task.whole a b stated stated' covers
+    (lack strict)
 
 -- one that is ahead is found
 pub record HasFoundAhead (task : Searched) (finals : List Final) (at : ℤ) (rides : ℕ) (price : ℤ) : Type 0 where
@@ -119,20 +124,19 @@ pub overtaken : (task : Searched) (finals : List Final) (x : Label) (b : LabelFa
     is_overtaken_by task finals x ≡ true → Lacks task finals b
 overtaken task finals x b sound same is strict =
     let ahead = found_ahead task finals x.arrival.0 x.rides (least_end task.feed task.query task.whole (facts_of x)) is in
-    subst (MayLack task.feed task.query task.whole (IsFoundBy task finals)) (sym same)
+    subst (MayLack (ways task.feed task.query) (outdoes task.feed task.query) task.whole (IsFoundBy task finals)) (sym same)
     (ahead_lacks task.feed task.query sound (IsFoundBy task finals) (found_up task finals) task.whole
     ahead.triple (facts_of x) ahead.found ahead.ahead)
 
 -- and one that isn't is outdone by no end of labels that the finals have the ends of
 pub not_outdone : (task : Searched) (finals : List Final) (labels : List Label) (x : Label) →
     HasEnds task.feed task.query labels finals → is_overtaken_by task finals x ≡ false →
-    IsPrunedBy task.feed task.query labels x
-not_outdone task finals labels x has none y at t ends =
-    false_from_ne_true (is_outdone task.feed task.query t (facts_of x)) (λ outdone.
+    IsUncut (round_search task.feed task.query) labels x
+not_outdone task finals labels x has none y at last t ends outdone =
     let k = slice_get-Contains labels y at in
     let better =
     list_any_tells (λ (f : Final). at_most f.triple t) finals
-    (has t (k.0, slice_get_within labels k.0 y k.1, y, k.1, ends)) in
+    (has t (k.0, slice_get_within labels k.0 y k.1, y, k.1, (last, ends))) in
     both_ways (list_any (λ (f : Final). is_within x.arrival.0 x.rides
     (least_end task.feed task.query task.whole (facts_of x)) f.triple) finals)
     (none_ahead task finals x.arrival.0 x.rides (least_end task.feed task.query task.whole (facts_of x)) none)
@@ -144,7 +148,7 @@ not_outdone task finals labels x has none y at t ends =
       better.1.1,
       better.1.2,
       ahead_of_outdone task.feed task.query t task.whole better.0.triple (facts_of x) better.2 outdone,
-    )))
+    ))
 
 module _ (task : Searched) (finals : List Final) (x : Label) (caught : CaughtRide)
     (right : IsRight task.feed task.query (stand_of_label x) caught) (b : LabelFacts)

@@ -9,11 +9,10 @@ pub mod PlannedLaws
 pub mod PriceLaws
 pub mod RideSteps
 pub mod ScanLaws
+pub mod SearchLaws
 pub mod SourceLaws
 pub mod SettledLaws
 pub mod SpanLaws
-pub mod SpreadLaws
 pub mod StopLaws
-pub mod StoreLaws
 pub mod UsefulLaws
 pub mod WholeLaws

@@ -18,7 +18,6 @@ use Rattle.feed_rows.specs.SoundFeed.{IsSoundFeed}
 use Rattle.plan_rides.specs.InTime.{IsWithinWindow, deadline}
 use Rattle.round_labels.specs.declared.label.Label.{Label}
 use Rattle.round_labels.specs.Labels.{IsBounded, facts_of}
-use Rattle.round_laws.specs.Futility.{LeadsBy}
 use Rattle.plan_rounds.specs.Bounds.{CostsBy, CostsOn, IsSince, LeadsOn, since_of}
 use Rattle.plan_rounds.specs.Lasts.{AreLastMoves}
 use Rattle.plan_rounds.specs.Stores.{StepsTo}
@@ -26,6 +25,8 @@ use Rattle.plan_rounds.specs.Prices.{AreLeastPrices, IsLateSince, far, least_sin
 use Rattle.plan_rounds.specs.declared.prices.LeastPrices.{LeastPrices}
 use Rattle.plan_rounds.proofs.MoveBounds.{move_small}
 use Rattle.plan_rounds.proofs.SpanLaws.{leads_few, step_within}
+use Rattle.round_laws.specs.LabelSteps.{ways}
+use Rattle.search_laws.specs.Ways.{LeadsBy}
 
 below : (x y z : ℤ) → x ≤ℤ y → y ≤ℤ z → x ≤ℤ z
 below x y z p q = omega (arith, ints, p, q)
@@ -38,7 +39,7 @@ module _ (feed : FeedRows) (query : Query) (lasts : List Bool) (bounds : BoundLi
 
   -- no journey that takes so many further rides costs less
   pub leads_above : (n : ℕ) (a : LabelFacts) (triple : Triple) → n < query.rides → IsWithinWindow query a.arrival →
-      LeadsBy feed query (suc n) a triple → told (n + 1) a ≤ℤ triple.price.0
+      LeadsBy (ways feed query) (suc n) a triple → told (n + 1) a ≤ℤ triple.price.0
   leads_above zero a triple few within leads =
       let step = leads.3 in
       subst (λ (z : ℤ). told 1 a ≤ℤ z) (sym leads.4.1.price)
@@ -122,7 +123,7 @@ costs_on feed query prices sound are n a (Some since) few within is triple leads
 
 -- so many further rides add no more than this to what is paid
 leads_low : (feed : FeedRows) (query : Query) → IsSoundFeed feed → (n : ℕ) (a : LabelFacts) (triple : Triple) →
-    nat_abs a.held ≤ 10 ^ 12 → LeadsBy feed query n a triple → triple.price.0 ≤ℤ (a.paid +ℤ pos (n * (3 * 10 ^ 12) + 10 ^ 12))
+    nat_abs a.held ≤ 10 ^ 12 → LeadsBy (ways feed query) n a triple → triple.price.0 ≤ℤ (a.paid +ℤ pos (n * (3 * 10 ^ 12) + 10 ^ 12))
 leads_low feed query sound zero a triple low leads =
     let is = leads.1.price in here triple.price.0 a.paid a.held is low
   where
@@ -141,7 +142,7 @@ leads_low feed query sound (suc n) a triple low leads =
 
 -- there is no journey of so many further rides that costs so much
 pub far_none : (feed : FeedRows) (query : Query) → IsSoundFeed feed → (n : ℕ) (x : Label) (price : ℤ) (triple : Triple) → query.rides ≤ 8 →
-    x.rides ≤ query.rides → IsBounded x → far ≤ℤ price → price ≤ℤ triple.price.0 → LeadsBy feed query n (facts_of x) triple → ⊥
+    x.rides ≤ query.rides → IsBounded x → far ≤ℤ price → price ≤ℤ triple.price.0 → LeadsBy (ways feed query) n (facts_of x) triple → ⊥
 far_none feed query sound n x price triple most rides bounded far_off costs leads =
     let few : n ≤ 8 = ⊎_elim (λ none. omega (arith, none)) (λ le. omega (arith, le, most)) (leads_few feed query n (facts_of x) triple leads) in
     over triple.price.0 price x.paid.0 x.rides n few (omega (arith, most, rides)) bounded.paid far_off costs

@@ -24,13 +24,14 @@ use Rattle.feed_rows.specs.StopLinks.{stop_set}
 use Rattle.plan_rides.proofs.DepartureLaws.{ride_end}
 use Rattle.plan_rides.proofs.MarkLaws.{member_of_stands_for}
 use Rattle.plan_rides.proofs.CaughtLaws.{caught_ride, caught_within}
-use Rattle.round_laws.specs.LabelSteps.{IsCaughtRide, facts_after, start_facts}
+use Rattle.round_laws.specs.LabelSteps.{IsCaughtRide, facts_after, start_facts, ways}
 use Rattle.round_labels.specs.declared.label.Label.{Label}
 use Rattle.plan_rounds.specs.declared.search.Source.{Source}
 use Rattle.round_labels.specs.Labels.{IsBounded, facts_of, label_of, stand_of_label, started, went_on}
 use Rattle.plan_rounds.specs.Sources.{IsSource, StepsByFirst, LeadsByFirst}
-use Rattle.plan_rounds.specs.Stores.{IsFresh, IsPrunedBy, StepsBy, IsStartOf, IsStartAmong}
+use Rattle.plan_rounds.specs.Stores.{StepsBy, IsStartAmong, round_search}
 use Rattle.plan_rounds.proofs.StopLaws.{stands_inside}
+use Rattle.search_laws.specs.Stores.{IsFresh, IsUncut}
 
 -- ---- rides
 
@@ -52,14 +53,16 @@ rides_by feed query x caught few right =
 
 -- the label without rides at a first stop
 pub fresh_start : (feed : FeedRows) (query : Query) (first : StopId) → IsTrue (stands_for feed query.from first) →
-    IsFresh feed query [] 0 (started query first)
+    IsFresh (round_search feed query) [] 0 (started query first)
 fresh_start feed query first stands = record {
-  inside = stands_inside feed query.from first stands;
+  fits = record {
+    inside = stands_inside feed query.from first stands;
+    bounded = record { paid = omega arith; held = omega arith };
+    within = record { since = omega (arith, ints); until = omega (arith, ints) };
+  };
   counts = refl;
-  bounded = record { paid = omega arith; held = omega arith };
-  within = record { since = omega (arith, ints); until = omega (arith, ints) };
-  linked = inl (record { stands = stands; facts = refl; parent = refl; ride = refl; taken = refl });
-  pruned = λ y at. let lt = at.1 in absurd (omega (arith, lt));
+  linked = inl (record { starts = (stands, refl); begins = record { parent = refl; ride = refl; taken = refl } });
+  uncut = λ y at. let lt = at.1 in absurd (omega (arith, lt));
 }
 
 -- where the ride and a move lead from a source is a label of its own
@@ -77,25 +80,25 @@ module _ (feed : FeedRows) (query : Query) (source : Source) (is : IsSource feed
 
   pub fresh_after : (taken : Move) → IsSoundFeed feed →
       move_after feed query.buyer from.state from.held.0 leg taken ≡ Some taken → IsBounded (went_on from source.number caught.ride caught.facts taken) →
-      IsPrunedBy feed query source.labels.now (went_on from source.number caught.ride caught.facts taken) →
-      IsFresh feed query source.labels.now (from.rides + 1) (went_on from source.number caught.ride caught.facts taken)
-  fresh_after taken sound pays bounded pruned = record {
-    inside = ride_end feed caught.ride caught.facts sound right.facts;
+      IsUncut (round_search feed query) source.labels.now (went_on from source.number caught.ride caught.facts taken) →
+      IsFresh (round_search feed query) source.labels.now (from.rides + 1) (went_on from source.number caught.ride caught.facts taken)
+  fresh_after taken sound pays bounded uncut = record {
+    fits = record {
+      inside = ride_end feed caught.ride caught.facts sound right.facts;
+      bounded = bounded;
+      within = within_after sound;
+    };
     counts = refl;
-    bounded = bounded;
-    within = within_after sound;
     linked = inr (record {
       number = source.number;
-      before = label_of from;
-      is = slice_get-map label_of source.labels.now source.number ∙ ap (option_map label_of) is.is;
+      before = from;
+      is = is.is;
       by = caught.ride;
       move = taken;
-      parent = refl;
-      ride = refl;
-      taken = refl;
+      goes = record { parent = refl; ride = refl; taken = refl };
       step = record { facts = caught.facts; rides = rides_by feed query from caught is.few right; pays = pays; next = refl };
     });
-    pruned = pruned;
+    uncut = uncut;
   }
 
   -- one more of the moves
@@ -141,8 +144,8 @@ starts_one query firsts k first b at among =
 
 -- each start is at one of them
 pub starts_among : (feed : FeedRows) (query : Query) (firsts : List StopId) (n : ℕ) (b : LabelFacts) → firsts ≡ stop_set feed query.from →
-    length firsts ≤ n → IsStartOf feed query b → IsStartAmong query firsts n b
+    length firsts ≤ n → (ways feed query).Starts b → IsStartAmong query firsts n b
 starts_among feed query firsts n b is all start =
-    let member = member_of_stands_for feed query.from start.0 start.1 in
+    let member = member_of_stands_for feed query.from b.stop start.0 in
     let lt = member.1 in
-    (member.0, omega (arith, lt, ap length is, all), start.0, ap (λ ss. slice_get ss member.0) is ∙ member.2, start.2)
+    (member.0, omega (arith, lt, ap length is, all), b.stop, ap (λ ss. slice_get ss member.0) is ∙ member.2, start.1)

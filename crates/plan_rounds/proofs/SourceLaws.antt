@@ -8,12 +8,10 @@ use Rattle.feed_rows.specs.declared.journeys.Query.{Query}
 use Rattle.feed_rows.specs.FeedRows.{FeedRows}
 use Rattle.feed_rows.specs.Journeys.{stands_for}
 use Rattle.feed_rows.specs.JourneyStands.{first_stand}
-use Rattle.feed_rows.specs.RoundTables.{Label as Kept}
 use Rattle.feed_rows.specs.PartialJourneys.{LabelFacts}
 use Rattle.plain_laws.proofs.Laws.{All-slice_get, slice_get-Contains}
 use Rattle.plan_rides.specs.InTime.{IsUsualQuery, IsWithinWindow}
-use Rattle.round_laws.specs.LabelSteps.{stand_of_facts}
-use Rattle.round_laws.specs.LinkedTables.{IsLinked}
+use Rattle.round_laws.specs.LabelSteps.{stand_of_facts, ways}
 use Rattle.round_labels.specs.declared.kept_label.KeptLabel.{KeptLabel}
 use Rattle.round_labels.specs.declared.label.Label.{Label}
 use Rattle.plan_rounds.specs.declared.search.Source.{Source}
@@ -21,32 +19,32 @@ use Rattle.round_labels.specs.Kept.{IsKeptAt, whole_by}
 use Rattle.round_labels.specs.Labels.{IsBounded, facts_of, label_of, labels_of, stand_of_label}
 use Rattle.plan_rounds.specs.Scans.{AreOrigins, IsOrigin}
 use Rattle.plan_rounds.specs.Sources.{IsSource}
-use Rattle.plan_rounds.specs.Stores.{AreStored, StepsTo, StepsFrom, StepsFromFirst}
+use Rattle.plan_rounds.specs.Stores.{StepsTo, StepsFromFirst, round_search, round_told, IsFit}
+use Rattle.search_laws.specs.Links.{IsLinked}
+use Rattle.search_laws.specs.Stores.{AreStored, StepsFrom}
 
 -- a label without rides stands at a first stop
-first_of : (feed : FeedRows) (query : Query) (before : List Kept) (x : Label) → IsLinked feed query before (label_of x) → x.rides ≡ 0 →
+first_of : (feed : FeedRows) (query : Query) (before : List Label) (x : Label) →
+    IsLinked (ways feed query) (round_told feed query) before x → x.rides ≡ 0 →
     (first : StopId) × IsTrue (stands_for feed query.from first) × (stand_of_label x ≡ first_stand query first)
-first_of feed query before x (inl start) none = (x.stop, start.stands, ap stand_of_facts start.facts)
+first_of feed query before x (inl start) none = (x.stop, start.starts.0, ap stand_of_facts start.starts.1)
 first_of feed query before x (inr next) none =
     let more = ap (λ (f : LabelFacts). f.rides) next.step.next in
     absurd (omega (arith, more, none))
 
 -- a round goes on from a stored label that has fewer rides than the query's limit
 pub origin_is : (feed : FeedRows) (query : Query) (count : ℕ) (labels bags : List Label) → IsUsualQuery query →
-    count < query.rides → AreStored feed query (count + 1) labels bags → AreOrigins feed query count labels
+    count < query.rides → AreStored (round_search feed query) (count + 1) labels bags → AreOrigins feed query count labels
 origin_is feed query count labels bags usual few stored number x at same = record {
   usual = usual;
   few = omega (arith, few, same);
-  bounded = All-slice_get IsBounded labels number x at stored.bounded;
-  within = All-slice_get (λ y. IsWithinWindow query y.arrival.0) labels number x at stored.within;
+  bounded = (All-slice_get (IsFit feed query) labels number x at stored.fit).bounded;
+  within = (All-slice_get (IsFit feed query) labels number x at stored.fit).within;
   may = record {
     some = omega (arith, few);
-    one = λ one. first_of feed query (take number (labels_of labels)) x linked (omega (arith, one, few, same));
+    one = λ one. first_of feed query (take number labels) x (stored.linked number x at) (omega (arith, one, few, same));
   };
 }
-  where
-    linked : IsLinked feed query (take number (labels_of labels)) (label_of x)
-    linked = stored.linked number (label_of x) (slice_get-map label_of labels number ∙ ap (option_map label_of) at)
 
 -- it is a source with its number
 pub source_of : (feed : FeedRows) (query : Query) (source : Source) →
@@ -83,7 +81,7 @@ module _ (feed : FeedRows) (query : Query) (labels : List Label) (rides n : ℕ)
 
 -- each step from a label with so many rides is one from them
 pub from_all : (feed : FeedRows) (query : Query) (labels : List Label) (rides n : ℕ) (b : LabelFacts) → length labels ≤ n →
-    StepsFrom feed query labels rides b → StepsFromFirst feed query labels rides n b
+    StepsFrom (round_search feed query) labels rides b → StepsFromFirst feed query labels rides n b
 from_all feed query labels rides n b all from =
     let at = slice_get-Contains labels from.0 from.1 in
     let lt = slice_get_within labels at.0 from.0 at.1 in

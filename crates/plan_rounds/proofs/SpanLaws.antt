@@ -22,8 +22,8 @@ use Rattle.plan_rides.specs.InTime.{IsWithinWindow, deadline, next_in_time}
 use Rattle.plan_rides.specs.Spans.{AreEndSpans, AreSpans, SpanLists, stands_of}
 use Rattle.plan_rides.proofs.CaughtLaws.{caught_within}
 use Rattle.plan_rides.proofs.CutoffLaws.{later_early}
-use Rattle.round_laws.specs.Futility.{LeadsBy}
-use Rattle.round_laws.specs.LabelSteps.{IsCaughtRide, IsLabelEnd, IsLabelStep, stand_of_facts}
+use Rattle.round_laws.specs.LabelSteps.{IsCaughtRide, IsLabelEnd, IsLabelStep, stand_of_facts, ways}
+use Rattle.search_laws.specs.Ways.{LeadsBy}
 
 -- ---- steps
 
@@ -48,7 +48,7 @@ step_ridden feed query a b ride move step =
 
 -- no more rides follow than the limit allows
 pub leads_few : (feed : FeedRows) (query : Query) (n : ℕ) (a : LabelFacts) (triple : Triple) →
-    LeadsBy feed query n a triple →
+    LeadsBy (ways feed query) n a triple →
     (n ≡ 0) ⊎ (a.rides + n ≤ query.rides)
 leads_few feed query zero a triple leads = inl refl
 leads_few feed query (suc n) a triple leads =
@@ -59,7 +59,7 @@ leads_few feed query (suc n) a triple leads =
 
 -- whatever more rides lead to ends in time
 pub leads_in_time : (feed : FeedRows) (query : Query) (n : ℕ) (a : LabelFacts) (triple : Triple) →
-    LeadsBy feed query n a triple →
+    LeadsBy (ways feed query) n a triple →
     triple.arrival.0 ≤ℤ deadline query
 leads_in_time feed query zero a triple leads = leads.1.in_time
 leads_in_time feed query (suc n) a triple leads = leads_in_time feed query n leads.2 triple leads.4
@@ -98,7 +98,7 @@ ends_early feed query spans are a ridden within last triple end = by (egress fee
 -- from where one stands after a ride, at most so many more rides lead to no end sooner than the span says
 pub leads_early : (feed : FeedRows) (query : Query) (lists : SpanLists) → IsSoundFeed feed → AreSpans feed query lists →
     (more : ℕ) (a : LabelFacts) → (a.rides == 0) ≡ false → IsWithinWindow query a.arrival → (n : ℕ) → n ≤ more →
-    (triple : Triple) → LeadsBy feed query n a triple →
+    (triple : Triple) → LeadsBy (ways feed query) n a triple →
     is_early (cutoff_by (stands_of lists more) triple.arrival.0) a.stop.0 a.arrival ≡ true
 leads_early feed query lists sound are zero a ridden within zero few triple leads =
     ends_early feed query (stands_of lists zero) are.ends a ridden within leads.0 triple leads.1
@@ -123,7 +123,7 @@ pub overdue : (feed : FeedRows) (query : Query) (lists : SpanLists) (by : ℤ) (
     (move : Move) → query.rides ≤ a.rides + 1 + more → IsSoundFeed feed → AreSpans feed query lists →
     IsWithinWindow query a.arrival → (step : IsLabelStep feed query a ride move b) →
     is_early (cutoff_by (stands_of lists more) by) step.facts.to.0 step.facts.arrival.0 ≡ false →
-    (n : ℕ) (triple : Triple) → triple.arrival.0 ≤ℤ by → LeadsBy feed query n b triple → ⊥
+    (n : ℕ) (triple : Triple) → triple.arrival.0 ≤ℤ by → LeadsBy (ways feed query) n b triple → ⊥
 overdue feed query lists by more a b ride move few sound are within step late n triple until leads =
     let next = ap (λ (x : LabelFacts). x.rides) step.next in
     let left : n ≤ more = ⊎_elim (λ none. omega (arith, none)) (λ le. omega (arith, few, next, le))

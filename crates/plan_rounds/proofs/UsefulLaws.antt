@@ -20,13 +20,16 @@ use Rattle.plan_rides.specs.InTime.{IsWithinWindow, deadline}
 use Rattle.plan_rides.specs.Spans.{AreSpans, SpanLists, no_spans, stands_of}
 use Rattle.round_labels.specs.declared.label.Label.{Label}
 use Rattle.round_labels.specs.Labels.{facts_of}
-use Rattle.round_laws.specs.Futility.{LeadsBy, IsFutile, MayLack, is_within, least_end}
+use Rattle.round_laws.specs.Futility.{is_within, least_end, outdoes}
 use Rattle.round_laws.proofs.BoundLaws.{ahead_passes, ahead_tells}
 use Rattle.round_table.specs.declared.finals.Final.{Final}
 use Rattle.plan_rounds.specs.Bounds.{AreFoundBy, CostsBy, CostsOn, DepartsSince, IsFairBy, IsFoundUntil, IsOutdoneAfter, IsUntil, IsUntilBy, LeadsOn}
 use Rattle.plan_rounds.specs.Searched.{IsFoundBy, Lacks, Searched, has_ahead}
 use Rattle.plan_rounds.proofs.FutileLaws.{found_ahead, found_up}
 use Rattle.plan_rounds.proofs.SpanLaws.{leads_early, leads_few, leads_in_time, overdue}
+use Rattle.round_laws.specs.LabelSteps.{ways}
+use Rattle.search_laws.specs.Cuts.{IsFutile, MayLack}
+use Rattle.search_laws.specs.Ways.{LeadsBy}
 
 -- (what stands in a list doesn't hang on these)
 abbrev pub no_triple : Triple
@@ -37,12 +40,12 @@ no_final = record { triple = no_triple; label = 0; last = record { 0 = 0 } }
 
 -- what is futile may be lacking, where the search needn't be whole
 lack_of : (task : Searched) (finals : List Final) (b : LabelFacts) → task.whole ≡ false →
-    (task.loose ≡ false → IsFutile task.feed task.query (IsFoundBy task finals) b) → Lacks task finals b
+    (task.loose ≡ false → IsFutile (ways task.feed task.query) (IsFoundBy task finals) b) → Lacks task finals b
 lack_of task finals b lean futile strict =
-    subst (λ w. MayLack task.feed task.query w (IsFoundBy task finals) b) (sym lean) (futile strict)
+    subst (λ w. MayLack (ways task.feed task.query) (outdoes task.feed task.query) w (IsFoundBy task finals) b) (sym lean) (futile strict)
 
 -- each further ride counts
-pub leads_rides : (feed : FeedRows) (query : Query) (n : ℕ) (a : LabelFacts) (triple : Triple) → LeadsBy feed query n a triple →
+pub leads_rides : (feed : FeedRows) (query : Query) (n : ℕ) (a : LabelFacts) (triple : Triple) → LeadsBy (ways feed query) n a triple →
     triple.rides ≡ a.rides + n
 leads_rides feed query zero a triple leads = let is = leads.1.rides in omega (arith, is)
 leads_rides feed query (suc n) a triple leads =
@@ -91,7 +94,7 @@ pub fair_by : (task : Searched) (lists : SpanLists) (finals : List Final) (x : L
     IsFairBy task finals x since (cutoff_by (stands_of lists more) until)
 fair_by task lists finals x since until more sound are none within is left b to departs late = by task.whole refl
   where
-    late_leads : task.loose ≡ false → (n : ℕ) (triple : Triple) → LeadsBy task.feed task.query n b triple → IsFoundBy task finals triple
+    late_leads : task.loose ≡ false → (n : ℕ) (triple : Triple) → LeadsBy (ways task.feed task.query) n b triple → IsFoundBy task finals triple
     late_leads strict n triple leads =
         ⊎_elim
         (λ in_time. absurd (overdue task.feed task.query lists until more (facts_of x) b to.0 to.1 (omega (arith, left)) sound are within to.2 late
@@ -153,7 +156,7 @@ by_none task finals since n a until within none = record { within = within; late
 
 -- a journey that goes on by a ride and so many more goes on by one more
 pub leads_more : (feed : FeedRows) (query : Query) (since : Option ℤ) (n : ℕ) (a : LabelFacts) (triple : Triple) →
-    LeadsOn feed query since n a triple → LeadsBy feed query (suc n) a triple
+    LeadsOn feed query since n a triple → LeadsBy (ways feed query) (suc n) a triple
 leads_more feed query since n a triple leads = (leads.0, leads.1, leads.2, leads.3, leads.5)
 
 -- the earlier of a moment and of the arrival of one thing more that is found
@@ -272,13 +275,13 @@ costs_more feed query n a price costs triple leads =
 
 module _ (task : Searched) (lists : SpanLists) (finals : List Final) (x : Label) (n : ℕ) (sound : IsSoundFeed task.feed)
     (are : AreSpans task.feed task.query lists) (ridden : (x.rides == 0) ≡ false) (within : IsWithinWindow task.query x.arrival.0) where
-  early : (triple : Triple) → LeadsBy task.feed task.query n (facts_of x) triple →
+  early : (triple : Triple) → LeadsBy (ways task.feed task.query) n (facts_of x) triple →
       is_early (cutoff_by (stands_of lists n) triple.arrival.0) x.stop.0 x.arrival.0 ≡ true
   early triple leads = leads_early task.feed task.query lists sound are n (facts_of x) ridden within n (omega arith) triple leads
 
   -- where no journey ends in time there are none
   pub leads_not : slice_get (stands_of lists n) x.stop.0 ≡ Some None → (triple : Triple) →
-      LeadsBy task.feed task.query n (facts_of x) triple → ⊥
+      LeadsBy (ways task.feed task.query) n (facts_of x) triple → ⊥
   unfolding is_span_any is_span
   leads_not none triple leads =
       both_ways (is_early (cutoff_by (stands_of lists n) triple.arrival.0) x.stop.0 x.arrival.0) (rw none refl) (early triple leads)

@@ -1,6 +1,6 @@
 -- The table of a search is real, and finds whatever is offered but for what was given; that of one that is to be whole is exact,
 -- sound and closed.
-use Rattle.std.proofs.Common.{◌≡◌, sym, ◌∙◌, ap, subst, ℕ, ◌+◌, ◌*◌, ◌<◌, ◌≤◌, ◌⊎◌, inl, inr, ⊎_elim, Bool, true, false, List, length, get_or, All}
+use Rattle.std.proofs.Common.{◌≡◌, sym, ◌∙◌, ap, subst, ℕ, ◌<◌, ◌⊎◌, inl, inr, ⊎_elim, Bool, true, false, List, length, get_or, All}
 use Rattle.std.specs.Prelude.{◌≢◌, Some, slice_get}
 use Rattle.std.proofs.lemmas.Bool.{both_ways, cases_order}
 use Rattle.std.proofs.lemmas.List.Elements.{All-contains, All-weaker}
@@ -19,13 +19,9 @@ use Rattle.feed_rows.specs.RoundTables.{Label as Kept, RoundTable}
 use Rattle.feed_rows.specs.SoundFeed.{IsSoundFeed}
 use Rattle.feed_rows.specs.SoundTable.{IsWithoutExcess, CoversJourneys, IsPruned}
 use Rattle.label_bag.specs.Bags.{AreApart}
-use Rattle.plain_laws.specs.Plain.{list_below}
-use Rattle.item_groups.specs.Groups.{groups_below}
-use Rattle.round_laws.specs.Futility.{MayLack}
-use Rattle.round_laws.specs.LabelSteps.{IsLabelEnd}
-use Rattle.round_laws.specs.LinkedTables.{CoversSteps, AreFinals, IsFinal, IsFound}
+use Rattle.round_laws.specs.LabelSteps.{IsLabelEnd, ways}
+use Rattle.round_laws.specs.LinkedTables.{AreFinals, IsFinal, IsFound, told}
 use Rattle.round_laws.proofs.AnswerLaws.{are_entries, each_found, ends_exactly, entries_cover, entries_given, exact_entries}
-use Rattle.round_laws.proofs.FutilityLaws.{IsUpward}
 use Rattle.round_laws.proofs.ClosedLaws.{covers_journeys, closed_table}
 use Rattle.round_laws.proofs.TableLaws.{are_real}
 use Rattle.round_table.specs.declared.finals.Final.{Final}
@@ -33,9 +29,15 @@ use Rattle.round_labels.specs.declared.label.Label.{Label}
 use Rattle.round_labels.specs.CoverLaws.{covers-holds}
 use Rattle.round_table.specs.Finals.{final_of, finals_of, is_bettered}
 use Rattle.round_labels.specs.Labels.{facts_of, label_of, labels_of, covers}
-use Rattle.plan_rounds.specs.Stores.{ArePruned, AreWhole}
-use Rattle.round_table.specs.Tables.{numbered, table_in, FindsBut, IsExactTable, IsRealTable, is_given}
-use Rattle.round_table.proofs.TableLaws.{are_bags, option_map-tells}
+use Rattle.round_table.specs.Tables.{table_in, FindsBut, IsExactTable, IsRealTable, is_given}
+use Rattle.round_table.proofs.TableLaws.{are_bags}
+use Rattle.search_laws.proofs.LinkLaws.{closed_as, linked_as, mapped_tells, starts_as}
+use Rattle.plan_rounds.specs.Stores.{IsFit, round_search}
+use Rattle.round_laws.specs.Futility.{outdoes}
+use Rattle.search_laws.specs.Cuts.{MayLack}
+use Rattle.search_laws.specs.Links.{AreClosed, AreLinked, CoversStarts}
+use Rattle.search_laws.specs.Stores.{AreUncut, AreWhole}
+use Rattle.search_laws.specs.Ways.{IsUpward}
 
 -- what is bettered is found
 pub found_of : (finals : List Final) (t : Triple) → is_bettered finals t → IsFound (finals_of finals) t
@@ -49,30 +51,20 @@ found_bettered finals t found =
     sym (list_any-map (λ final. at_most final.triple t) final_of finals)
     ∙ list_any-from_Any (λ final. at_most final.triple t) (finals_of finals) found
 
--- what may be lacking may still be where more may
-pub whole_weaker : (feed : FeedRows) (query : Query) (Lacking More : LabelFacts → Type 0) (labels : List Label) →
-    ((b : LabelFacts) → Lacking b → More b) → AreWhole feed query Lacking labels → AreWhole feed query More labels
-whole_weaker feed query Lacking More labels more are = record {
-  linked = are.linked;
-  starts = are.starts;
-  closed = All-weaker (λ label. CoversSteps feed query Lacking label.facts (labels_of labels))
-      (λ label. CoversSteps feed query More label.facts (labels_of labels))
-      (λ label covers ride move b step. ⊎_elim inl (λ lack. inr (more b lack)) (covers ride move b step)) (labels_of labels)
-      are.closed;
-  apart = are.apart;
-  few = are.few;
-  inside = are.inside;
-  within = are.within;
-  bounded = are.bounded;
-  pruned = are.pruned;
-}
-
-module _ (feed : FeedRows) (query : Query) (labels : List Label) (stops limit : ℕ) (finals : List Final) where
-  abbrev groups : List (List ℕ)
-  groups = groups_below ((limit + 1) * stops) (list_below (length labels) (numbered stops labels))
-
+module _ (feed : FeedRows) (query : Query) (labels : List Label) (finals : List Final) where
   abbrev table : RoundTable
-  table = table_in labels stops groups finals
+  table = table_in labels finals
+
+  -- the labels of all rounds are linked in the table, and cover the starts and their steps
+  module _ {Lacking : LabelFacts → Type 0} (are : AreWhole (round_search feed query) Lacking query.rides labels) where
+    linked : AreLinked (ways feed query) told (labels_of labels)
+    linked = linked_as (ways feed query) label_of (IsFit feed query) told labels are.linked
+
+    starts : CoversStarts (ways feed query) told (labels_of labels)
+    starts = starts_as (ways feed query) label_of (IsFit feed query) told labels are.starts
+
+    closed : AreClosed (ways feed query) told Lacking (labels_of labels)
+    closed = closed_as (ways feed query) label_of (IsFit feed query) told Lacking labels are.closed
 
   -- of labels at two numbers neither covers the other
   apart_at : AreApart covers labels → (m n : ℕ) (x y : Label) → slice_get labels m ≡ Some x → slice_get labels n ≡ Some y → m ≢ n →
@@ -95,71 +87,68 @@ module _ (feed : FeedRows) (query : Query) (labels : List Label) (stops limit : 
 
   no_excess : AreApart covers labels → IsWithoutExcess table
   no_excess apart m n a b is_a is_b differ below =
-      let x = option_map-tells label_of (slice_get labels m) a (sym (slice_get-map label_of labels m) ∙ is_a) in
-      let y = option_map-tells label_of (slice_get labels n) b (sym (slice_get-map label_of labels n) ∙ is_b) in
+      let x = mapped_tells label_of (slice_get labels m) a (sym (slice_get-map label_of labels m) ∙ is_a) in
+      let y = mapped_tells label_of (slice_get labels n) b (sym (slice_get-map label_of labels n) ∙ is_b) in
       apart_at apart m n x.0 y.0 x.1 y.1 differ
       (subst (λ (l : Kept). Covers l.facts (facts_of y.0)) (sym x.2) (subst (λ (l : Kept). Covers a.facts l.facts) (sym y.2) below))
 
   -- no label is outdone by a final with fewer rides
-  pruned : ArePruned feed query labels → AreFinals feed query (labels_of labels) (finals_of finals) →
+  pruned : AreUncut (round_search feed query) labels → AreFinals feed query (labels_of labels) (finals_of finals) →
       IsPruned feed query table
   pruned are ends number label final is at lt outdone =
-      let x = option_map-tells label_of (slice_get labels number) label
+      let x = mapped_tells label_of (slice_get labels number) label
       (sym (slice_get-map label_of labels number) ∙ is) in
       let f = All-contains (IsFinal feed query (labels_of labels)) (finals_of finals) final ends.right at in
       let y =
-      option_map-tells label_of (slice_get labels final.label) f.label
+      mapped_tells label_of (slice_get labels final.label) f.label
       (sym (slice_get-map label_of labels final.label) ∙ f.is) in
       let fewer =
       subst (λ (n : ℕ). n < x.0.rides) (f.end.rides ∙ sym (ap (λ (l : Kept). l.facts.rides) y.2))
       (subst (λ (l : Kept). final.triple.rides < l.facts.rides) (sym x.2) lt) in
       let ends_there =
       subst (λ (l : Kept). IsLabelEnd feed query l.facts final.last final.triple) (sym y.2) f.end in
-      both_ways (is_outdone feed query final.triple (facts_of x.0))
-      (are x.0 y.0 (Contains-slice_get labels number x.0 x.1) (Contains-slice_get labels final.label y.0 y.1) fewer
-      final.triple (final.last, ends_there))
-      (subst (λ (l : Kept). is_outdone feed query final.triple l.facts ≡ true) (sym x.2) outdone)
+      are x.0 y.0 (Contains-slice_get labels number x.0 x.1) (Contains-slice_get labels final.label y.0 y.1) fewer final.last
+      final.triple ends_there (subst (λ (l : Kept). is_outdone feed query final.triple l.facts ≡ true) (sym x.2) outdone)
 
-  pub real_table : (Lacking : LabelFacts → Type 0) → AreWhole feed query Lacking labels →
-      AreFinals feed query (labels_of labels) (finals_of finals) → stops ≡ length feed.stops → limit ≡ query.rides →
-      IsRealTable feed query table
-  real_table Lacking are ends all_stops all_rides =
-      let entries = entries_given feed query table are.linked ends.right in
+  pub real_table : (Lacking : LabelFacts → Type 0) → AreWhole (round_search feed query) Lacking query.rides labels →
+      AreFinals feed query (labels_of labels) (finals_of finals) → IsRealTable feed query table
+  real_table Lacking are ends =
+      let entries = entries_given feed query table (linked are) ends.right in
       record {
-        real = λ number label is. are_real feed query table number label are.linked is;
-        bags = are_bags labels stops limit
-            (subst (λ (n : ℕ). All (λ x. x.rides ≤ n) labels) (sym all_rides) are.few)
-            (subst (λ (n : ℕ). All (λ x. x.stop.0 < n) labels) (sym all_stops) are.inside) finals;
+        real = λ number label is. are_real feed query table number label (linked are) is;
+        bags = are_bags labels finals;
         no_excess = no_excess are.apart;
-        pruned = pruned are.pruned ends;
-        entries = (entries.0, entries.1, are_entries feed query table are.linked ends.right entries.0 entries.1);
+        pruned = pruned are.uncut ends;
+        entries = (entries.0, entries.1, are_entries feed query table (linked are) ends.right entries.0 entries.1);
       }
 
   -- what a search lacks is found by finals, or was given
   pub finds_all : IsSoundFeed feed → (whole : Bool) (given : List Triple) →
-      AreWhole feed query (MayLack feed query whole (λ t. is_bettered finals t ⊎ is_given given t)) labels →
-      IsUpward (λ t. is_bettered finals t ⊎ is_given given t) →
+      AreWhole (round_search feed query)
+      (MayLack (ways feed query) (outdoes feed query) whole (λ t. is_bettered finals t ⊎ is_given given t)) query.rides labels →
+      IsUpward (ways feed query) (λ t. is_bettered finals t ⊎ is_given given t) →
       AreFinals feed query (labels_of labels) (finals_of finals) → FindsBut feed query given table
   finds_all sound whole given are upward ends entries is entry entry_is =
-      ⊎_elim (λ some. inl (entries_cover feed query table are.linked ends.right entries is entry.triple (found_of finals entry.triple some))) inr
+      ⊎_elim (λ some. inl (entries_cover feed query table (linked are) ends.right entries is entry.triple (found_of finals entry.triple some))) inr
       (each_found feed query whole table sound (λ t. is_bettered finals t ⊎ is_given given t) upward
-      (λ t found. inl (found_bettered finals t found)) are.linked are.starts are.closed ends entry entry_is)
+      (λ t found. inl (found_bettered finals t found)) (linked are) (starts are) (closed are) ends entry entry_is)
 
   -- a search that is to be whole is exact
-  pub exact_table : IsSoundFeed feed → AreWhole feed query (MayLack feed query true (IsFound (finals_of finals))) labels →
+  pub exact_table : IsSoundFeed feed → AreWhole (round_search feed query)
+      (MayLack (ways feed query) (outdoes feed query) true (IsFound (finals_of finals))) query.rides labels →
       AreFinals feed query (labels_of labels) (finals_of finals) → IsExactTable feed query table
   exact_table sound are ends = record {
-    exact = ends_exactly feed query true table sound are.linked are.starts are.closed ends;
-    offers = λ entries is. (exact_entries feed query true table sound are.linked are.starts are.closed ends entries is).1;
+    exact = ends_exactly feed query true table sound (linked are) (starts are) (closed are) ends;
+    offers = λ entries is. (exact_entries feed query true table sound (linked are) (starts are) (closed are) ends entries is).1;
   }
 
   -- a search that is to be whole covers the partial journeys, and its table is closed
-  pub covers_all : IsSoundFeed feed → AreWhole feed query
-      (MayLack feed query true (IsFound (finals_of finals))) labels →
+  pub covers_all : IsSoundFeed feed → AreWhole (round_search feed query)
+      (MayLack (ways feed query) (outdoes feed query) true (IsFound (finals_of finals))) query.rides labels →
       CoversJourneys feed query table
-  covers_all sound are = covers_journeys feed query table sound are.linked are.starts are.closed
+  covers_all sound are = covers_journeys feed query table sound (linked are) (starts are) (closed are)
 
-  pub closed_all : IsSoundFeed feed → AreWhole feed query
-      (MayLack feed query true (IsFound (finals_of finals))) labels →
+  pub closed_all : IsSoundFeed feed → AreWhole (round_search feed query)
+      (MayLack (ways feed query) (outdoes feed query) true (IsFound (finals_of finals))) query.rides labels →
       IsClosedTable feed query table
-  closed_all sound are = closed_table feed query table sound are.linked are.starts are.closed
+  closed_all sound are = closed_table feed query table sound (linked are) (starts are) (closed are)

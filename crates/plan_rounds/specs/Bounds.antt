@@ -14,13 +14,14 @@ use Rattle.plan_rides.specs.InTime.{deadline}
 use Rattle.round_labels.specs.declared.label.Label.{Label}
 use Rattle.round_labels.specs.Labels.{facts_of}
 use Rattle.fare_bounds.specs.FareBounds.{BoundLists}
-use Rattle.round_laws.specs.Futility.{LeadsBy, least_end}
-use Rattle.round_laws.specs.LabelSteps.{IsLabelStep}
+use Rattle.round_laws.specs.Futility.{least_end}
+use Rattle.round_laws.specs.LabelSteps.{IsLabelStep, ways}
 use Rattle.plan_rounds.specs.declared.bounds.Until.{Until}
 use Rattle.plan_rounds.specs.Prices.{IsLateSince}
 use Rattle.round_table.specs.declared.finals.Final.{Final}
 use Rattle.plan_rounds.specs.Searched.{IsFoundBy, Lacks, Searched, has_ahead}
 use Rattle.plan_rounds.specs.Stores.{StepsTo}
+use Rattle.search_laws.specs.Ways.{LeadsBy}
 
 -- ---- the rides that are looked at
 
@@ -39,13 +40,13 @@ IsSince query bounds a since = (moment : Moment) → since ≡ Some moment → I
 -- from such facts a ride that departs so, and so many more rides lead to a journey's end with this triple
 abbrev pub LeadsOn : FeedRows → Query → Option ℤ → ℕ → LabelFacts → Triple → Type 0
 LeadsOn feed query since n a triple =
-    (ride : Ride) × (move : Move) × (b : LabelFacts) × (step : IsLabelStep feed query a ride move b) × DepartsSince since step.facts × LeadsBy feed query n b triple
+    (ride : Ride) × (move : Move) × (b : LabelFacts) × (step : IsLabelStep feed query a ride move b) × DepartsSince since step.facts × LeadsBy (ways feed query) n b triple
 
 -- ---- what they cost, and until when they may arrive
 
 -- no journey of so many further rides costs less
 abbrev pub CostsBy : FeedRows → Query → ℕ → LabelFacts → ℤ → Type 0
-CostsBy feed query n a price = (triple : Triple) → LeadsBy feed query n a triple → price ≤ℤ triple.price.0
+CostsBy feed query n a price = (triple : Triple) → LeadsBy (ways feed query) n a triple → price ≤ℤ triple.price.0
 
 -- nor does one that goes on so
 abbrev pub CostsOn : FeedRows → Query → Option ℤ → ℕ → LabelFacts → ℤ → Type 0
@@ -53,7 +54,7 @@ CostsOn feed query since n a price = (triple : Triple) → LeadsOn feed query si
 
 -- whatever so many further rides lead to is found
 abbrev pub AreFoundBy : Searched → List Final → ℕ → LabelFacts → Type 0
-AreFoundBy task finals n a = (triple : Triple) → LeadsBy task.feed task.query n a triple → IsFoundBy task finals triple
+AreFoundBy task finals n a = (triple : Triple) → LeadsBy (ways task.feed task.query) n a triple → IsFoundBy task finals triple
 
 -- the moment isn't later than the one; it is this one, or something that arrives then is found with no more rides than so many and for
 -- no more than this
@@ -72,7 +73,7 @@ pub record IsUntilBy (task : Searched) (finals : List Final) (since : Option ℤ
 pub record IsUntil (task : Searched) (finals : List Final) (x : Label) (since : Option ℤ) (until : ℤ) : Type 0 where
   pub within : until ≤ℤ deadline task.query
   pub later : task.loose ≡ false → (b : LabelFacts) (to : StepsTo task.feed task.query (facts_of x) b) → DepartsSince since to.2.facts →
-      (n : ℕ) (triple : Triple) → LeadsBy task.feed task.query n b triple → until <ℤ triple.arrival.0 → IsFoundBy task finals triple
+      (n : ℕ) (triple : Triple) → LeadsBy (ways task.feed task.query) n b triple → until <ℤ triple.arrival.0 → IsFoundBy task finals triple
 
 -- so are the moments for all rides, and for those that depart later
 pub record AreUntilsOf (task : Searched) (finals : List Final) (x : Label) (until : Until) : Type 0 where

@@ -22,7 +22,8 @@ use Rattle.plan_rounds.specs.Bounds.{AreUntilsOf, IsFairBy}
 use Rattle.plan_rounds.specs.declared.bounds.Until.{Until}
 use Rattle.round_labels.specs.Labels.{IsBounded, facts_of, stand_of_label}
 use Rattle.plan_rounds.specs.Searched.{Searched, Lacks}
-use Rattle.plan_rounds.specs.Stores.{Spreads, StepsFromFirst, StepsTo}
+use Rattle.plan_rounds.specs.Stores.{StepsFromFirst, StepsTo, round_search}
+use Rattle.search_laws.specs.Stores.{Spreads}
 
 -- ---- rounds
 
@@ -150,4 +151,4 @@ pub record ServeFor (task : Searched) (round : Round) (x : Label) (reached : Rea
 -- the labels with one ride more gain those that cover this part, but for what the search may lack
 abbrev pub SpreadsIn : Searched → Round → (LabelFacts → Type 0) → List Label → List Label → Type 0
 SpreadsIn task round Part old new =
-    Spreads task.feed task.query (Lacks task round.finals.now) round.labels.now (round.count + 1) Part old new
+    Spreads (round_search task.feed task.query) (Lacks task round.finals.now) round.labels.now (round.count + 1) Part old new

@@ -10,12 +10,14 @@ use Rattle.feed_rows.specs.SoundTable.{CoversJourneys}
 use Rattle.std.specs.List.{list_any}
 use Rattle.plan_rides.specs.Asked.{Asked}
 use Rattle.plan_rounds.specs.declared.search.Aim.{Aim}
-use Rattle.round_laws.specs.Futility.{MayLack, is_within, least_end}
+use Rattle.round_laws.specs.Futility.{is_within, least_end, outdoes}
 use Rattle.round_table.specs.declared.finals.Final.{Final}
 use Rattle.round_labels.specs.declared.label.Label.{Label}
 use Rattle.round_table.specs.Finals.{is_bettered}
 use Rattle.round_table.specs.Tables.{FindsBut, IsExactTable, IsRealTable, is_given}
 use Rattle.round_labels.specs.Labels.{facts_of}
+use Rattle.round_laws.specs.LabelSteps.{ways}
+use Rattle.search_laws.specs.Cuts.{MayLack}
 
 -- what the labels of a search are to cover: all partial journeys but those that a final outdoes, or those alone that matter for
 -- the answer beside triples that are given; or they need cover nothing, where any finals will do
@@ -49,7 +51,7 @@ IsFoundBy task finals triple = is_bettered finals triple ⊎ is_given task.given
 
 -- the search may lack labels with such facts, where these finals are found
 abbrev pub Lacks : Searched → List Final → LabelFacts → Type 0
-Lacks task finals facts = task.loose ≡ false → MayLack task.feed task.query task.whole (IsFoundBy task finals) facts
+Lacks task finals facts = task.loose ≡ false → MayLack (ways task.feed task.query) (outdoes task.feed task.query) task.whole (IsFoundBy task finals) facts
 
 -- some final, or some triple that is given, arrives no later than this moment, with no more rides than so many, and costs no
 -- more than this

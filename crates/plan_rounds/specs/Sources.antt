@@ -13,7 +13,8 @@ use Rattle.round_labels.specs.declared.label.Label.{Label}
 use Rattle.plan_rounds.specs.declared.search.Source.{Source}
 use Rattle.round_labels.specs.Labels.{IsBounded, facts_of, stand_of_label}
 use Rattle.plan_rounds.specs.Searched.{Searched, Lacks}
-use Rattle.plan_rounds.specs.Stores.{Spreads, StepsBy}
+use Rattle.plan_rounds.specs.Stores.{StepsBy, round_search}
+use Rattle.search_laws.specs.Stores.{Spreads}
 
 -- the label has the number among the labels, lies within its bounds, and one more ride is within the query's limit
 pub record IsSource (feed : FeedRows) (query : Query) (source : Source) : Type 0 where
@@ -42,7 +43,7 @@ pub record AreEnding (query : Query) (labels : List Label) : Type 0 where
 -- the labels with one ride more than the source's gain those that cover this part, but for what the search may lack
 abbrev pub SpreadsFrom : Searched → List Final → Source → (LabelFacts → Type 0) → List Label → List Label → Type 0
 SpreadsFrom task finals source Part old new =
-    Spreads task.feed task.query (Lacks task finals) source.labels.now (source.label.now.rides + 1) Part old new
+    Spreads (round_search task.feed task.query) (Lacks task finals) source.labels.now (source.label.now.rides + 1) Part old new
 
 -- the source leads there by one of the first k of these rides
 abbrev pub StepsByFirst : FeedRows → Query → Source → List CaughtRide → ℕ → LabelFacts → Type 0

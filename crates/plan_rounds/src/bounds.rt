@@ -5,13 +5,15 @@ ghost use Rattle.feed_rows.specs.PartialJourneys.{LabelFacts};
 ghost use Rattle.plan_rides.specs.InTime.{IsWithinWindow, deadline};
 ghost use Rattle.plan_rounds.specs.Bounds.{AreFoundBy, AreUntilsOf, CostsBy, IsFoundUntil, IsOutdoneAfter, IsSince, IsUntil, IsUntilBy, since_of};
 ghost use Rattle.plan_rounds.specs.Prices.{AreLeastPrices};
-ghost use Rattle.round_laws.specs.Futility.{LeadsBy, is_within, least_end, least_price, some_takes_back};
+ghost use Rattle.round_laws.specs.Futility.{is_within, least_end, least_price, some_takes_back};
 ghost use Rattle.std.specs.List.{list_any};
 ghost use Rattle.feed_rows.specs.declared.fares.Triple.{Triple};
 ghost use Rattle.round_table.specs.declared.finals.Final.{Final};
 ghost use Rattle.round_labels.specs.Labels.{IsBounded, facts_of};
 ghost use Rattle.plan_rounds.specs.Searched.{Lacks, has_ahead, is_overtaken_by};
 ghost use Rattle.plan_rounds.specs.Sources.{IsSource};
+ghost use Rattle.round_laws.specs.LabelSteps.{ways};
+ghost use Rattle.search_laws.specs.Ways.{LeadsBy};
 
 use crate::prices::{LeastPrices, is_far};
 use crate::search::{Search, Source};
@@ -212,7 +214,7 @@ impl<'s, 'l> Search<'s, 'l> {
     /// Whether the stop is one from which no journey goes on from the label by so many rides.
     fn is_off(&self, label: &Label, further: u8) -> bool
         requires { IsWithinWindow self.now.query label.now.arrival.0 }
-        ensures { result ≡ true → (triple : Triple) → LeadsBy self.now.feed self.now.query further (facts_of label.now) triple → ⊥ }
+        ensures { result ≡ true → (triple : Triple) → LeadsBy (ways self.now.feed self.now.query) further (facts_of label.now) triple → ⊥ }
     {
         if label.rides == 0 {
             return false;

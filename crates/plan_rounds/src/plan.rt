@@ -34,16 +34,15 @@ use transit_base::Moment;
 
 impl<'s, 'l> Search<'s, 'l> {
     /// The table of all rounds.
-    fn table(&self, alloc: Global, found: &mut Found<'s, '_>) -> Result<RoundTable, AllocError>
+    fn table(&self, found: &mut Found<'s, '_>) -> Result<RoundTable, AllocError>
         requires fares { HasFares self.now found.old.known }
         ensures fares { HasFares self.now found.new.known }
         ensures is { IfOk result (λ table. IsTableOf self.now (table_by table)) }
     {
         let _whole = self.is_whole();
-        let limit = self.limit();
-        let stops = self.stops();
+        let _feed = self.feed();
         let (labels, front) = self.labels(found)?;
-        RoundTable::of(alloc, labels, front.into_items(), stops as u32, limit)
+        Ok(RoundTable::of(labels, front.into_items()))
     }
 }
 
@@ -95,7 +94,7 @@ fn table_with<'s, 'l>(
         takes_back: takes_back(feed),
         aim,
     };
-    search.table(alloc, found)
+    search.table(found)
 }
 
 /// The triples of entries.

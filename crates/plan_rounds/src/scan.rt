@@ -12,8 +12,9 @@ ghost use Rattle.plan_rounds.specs.Moves.{HasFares};
 ghost use Rattle.plan_rounds.specs.Scans.{AddsLabel, AddsMarks, AreInOrder, AreMarks, IsFairIn, IsLeftOut, IsMarked, IsRound, ServeFor, SpreadsIn, StepsAt, StepsFromPosition};
 ghost use Rattle.plan_rounds.specs.Settled.{ArePassed, AreSettled};
 ghost use Rattle.plan_rounds.specs.Sources.{IsSource, SpreadsFrom, StepsByFirst};
-ghost use Rattle.plan_rounds.specs.Stores.{StepsFrom};
 ghost use Rattle.round_labels.specs.declared.label.Label.{Label};
+ghost use Rattle.plan_rounds.specs.Stores.{round_search};
+ghost use Rattle.search_laws.specs.Stores.{StepsFrom};
 
 use crate::bounds::Until;
 use crate::legs::{KeptLegs, RideLegs};
@@ -331,7 +332,7 @@ impl<'s, 'l> Search<'s, 'l> {
         requires marks { AreMarks self.now round.now marks.now }
         requires fares { HasFares self.now found.old.known }
         ensures fares { HasFares self.now found.new.known }
-        ensures spreads { OnOk result (SpreadsIn self.now round.now (StepsFrom self.now.feed self.now.query round.now.labels.now round.now.count) bags.old bags.new) }
+        ensures spreads { OnOk result (SpreadsIn self.now round.now (StepsFrom (round_search self.now.feed self.now.query) round.now.labels.now round.now.count) bags.old bags.new) }
     {
         let more = usize::from(self.limit() - round.count - 1);
         let cutoffs = self.cutoffs_by(more, marks.last);

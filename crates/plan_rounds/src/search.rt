@@ -5,7 +5,7 @@ ghost use Rattle.fare_timeframes.specs.BuiltTimeframes.{AreTimeframesOf};
 ghost use Rattle.feed_rows.specs.FareSteps.{move_after};
 ghost use Rattle.feed_rows.specs.Journeys.{stands_for};
 ghost use Rattle.feed_rows.specs.Legs.{leg_facts};
-ghost use Rattle.round_laws.specs.LabelSteps.{facts_after, start_facts};
+ghost use Rattle.round_laws.specs.LabelSteps.{facts_after, start_facts, ways};
 ghost use Rattle.feed_rows.specs.SoundFeed.{IsSoundFeed};
 ghost use Rattle.feed_rows.specs.StopLinks.{stop_set};
 ghost use Rattle.plan_rides.specs.Asked.{asked};
@@ -21,7 +21,8 @@ ghost use Rattle.plan_rounds.specs.Sources.{AreEnding, IsSource, SpreadsFrom};
 ghost use Rattle.label_bag.specs.Bags.{AreApart};
 ghost use Rattle.round_labels.specs.Labels.{covers};
 ghost use Rattle.round_labels.specs.Bags.{gathered};
-ghost use Rattle.plan_rounds.specs.Stores.{AreStored, AreWhole, IsNever, IsStartOf, Spreads, StepsBy, StepsFrom};
+ghost use Rattle.plan_rounds.specs.Stores.{IsNever, StepsBy, round_search};
+ghost use Rattle.search_laws.specs.Stores.{AreStored, AreWhole, Spreads, StepsFrom};
 
 use crate::legs::KeptLegs;
 use crate::moves::is_bettered;
@@ -246,14 +247,14 @@ impl<'s, 'l> Search<'s, 'l> {
     /// Offers the label without rides at a first stop.
     fn offer_start(&self, first: StopId, bags: &mut StopBags) -> Result<(), AllocError>
         requires { IsTrue (stands_for self.now.feed self.now.query.from first) }
-        ensures { OnOk result (Spreads self.now.feed self.now.query IsNever [] 0 (λ b. b ≡ start_facts self.now.query first) bags.old bags.new) }
+        ensures { OnOk result (Spreads (round_search self.now.feed self.now.query) IsNever [] 0 (λ b. b ≡ start_facts self.now.query first) bags.old bags.new) }
     {
         bags.offer(&Label::start(self.rides.query(), first))
     }
 
     /// Offers the labels without rides.
     fn offer_starts(&self, bags: &mut StopBags) -> Result<(), AllocError>
-        ensures { OnOk result (Spreads self.now.feed self.now.query IsNever [] 0 (IsStartOf self.now.feed self.now.query) bags.old bags.new) }
+        ensures { OnOk result (Spreads (round_search self.now.feed self.now.query) IsNever [] 0 ((ways self.now.feed self.now.query).Starts) bags.old bags.new) }
     {
         let firsts = self.firsts();
         for k in 0..firsts.len() {
@@ -385,11 +386,11 @@ impl<'s, 'l> Search<'s, 'l> {
     ) -> Result<(), AllocError>
         requires few { count < self.now.query.rides }
         requires numbers { length labels.now < 2 ^ 32 }
-        requires stored { AreStored self.now.feed self.now.query (count + 1) labels.now bags.old }
+        requires stored { AreStored (round_search self.now.feed self.now.query) (count + 1) labels.now bags.old }
         requires ended { HasEnds self.now.feed self.now.query labels.now finals.now }
         requires fares { HasFares self.now found.old.known }
         ensures fares { HasFares self.now found.new.known }
-        ensures spreads { OnOk result (Spreads self.now.feed self.now.query (Lacks self.now finals.now) labels.now (count + 1) (StepsFrom self.now.feed self.now.query labels.now count) bags.old bags.new) }
+        ensures spreads { OnOk result (Spreads (round_search self.now.feed self.now.query) (Lacks self.now finals.now) labels.now (count + 1) (StepsFrom (round_search self.now.feed self.now.query) labels.now count) bags.old bags.new) }
     {
         let _limit = self.limit();
         let positions = self.rides.positions();
@@ -485,7 +486,7 @@ impl<'s, 'l> Search<'s, 'l> {
     pub fn labels(&self, found: &mut Found<'s, '_>) -> Result<(LabelList, Front<Final>), AllocError>
         requires fares { HasFares self.now found.old.known }
         ensures fares { HasFares self.now found.new.known }
-        ensures whole { IfOk result (λ all. AreWhole self.now.feed self.now.query (Lacks self.now all.1) all.0) }
+        ensures whole { IfOk result (λ all. AreWhole (round_search self.now.feed self.now.query) (Lacks self.now all.1) self.now.query.rides all.0) }
         ensures numbers { IfOk result (λ all. length all.0 < 2 ^ 32) }
         ensures ended { IfOk result (λ all. AddsEnds self.now.feed self.now.query all.0 (EndsBelow self.now.feed self.now.query all.0 (length all.0)) [] all.1) }
     {

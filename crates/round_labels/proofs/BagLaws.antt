@@ -14,6 +14,7 @@ use Rattle.feed_rows.specs.declared.states.Move.{Move}
 use Rattle.label_bag.specs.Bags.{Gathers, AreApart, Apart, covers as has_cover}
 use Rattle.plain_laws.specs.Plain.{joined_below}
 use Rattle.plain_laws.proofs.Laws.{AllPairs-joined_below, All-from, Contains-cons_first, Contains-joined_below, joined_below-same, joined_below-tells, joined_more, map-tells, slice_get-append_left, slice_get-push_last}
+use Rattle.search_laws.specs.Stores.{Takes}
 use Rattle.round_labels.specs.declared.kept_label.KeptLabel.{KeptLabel}
 use Rattle.round_labels.specs.declared.label.Label.{Label}
 use Rattle.round_labels.specs.declared.label_class.LabelClass.{LabelClass}
@@ -21,7 +22,7 @@ use Rattle.round_labels.specs.declared.last_move.LastMove.{LastMove}
 use Rattle.round_labels.specs.CoverLaws.{class_covered, class_equivalence, cover_laws, same_class-equal}
 use Rattle.round_labels.specs.Kept.{Grows, IsNumbered, is_as_good, move_at, whole, whole_by, wholes}
 use Rattle.round_labels.specs.Labels.{covers, class_of, same_class}
-use Rattle.round_labels.specs.Bags.{AreBagsOf, IsBag, IsBagOf, IsKeptOf, Takes, bag_at, has_rides, in_bags, labels_at}
+use Rattle.round_labels.specs.Bags.{AreBagsOf, IsBag, IsBagOf, IsKeptOf, bag_at, has_rides, in_bags, labels_at}
 use Rattle.round_labels.proofs.KeptBagLaws.{all_offered, apart_whole, bag_numbered, bag_still, cover_there, covered_by, covered_whole, takes_whole, whole_numbered, wholes_still}
 
 abbrev Classed : Type 0
@@ -46,7 +47,7 @@ one_bag moves class x is = record {
 }
 
 -- a label that is covered changes nothing
-pub takes_none : (old : List Label) (x : Label) → has_cover covers old x ≡ true → Takes old x old
+pub takes_none : (old : List Label) (x : Label) → has_cover covers old x ≡ true → Takes covers old x old
 takes_none old x covered = record {
   gathers = record {
     still = λ y h. h;
@@ -56,7 +57,7 @@ takes_none old x covered = record {
   keeps = λ y at differs. at;
 }
 
-pub takes_push : (old : List Label) (x : Label) → Takes old x (old ++ x ∷ [])
+pub takes_push : (old : List Label) (x : Label) → Takes covers old x (old ++ x ∷ [])
 takes_push old x = record {
   gathers = record {
     still = λ y h. let some = cover_there covers old y h in covered_by covers (old ++ x ∷ []) some.0 y
@@ -74,7 +75,7 @@ takes_push old x = record {
 
 -- the label was taken into the bag with this number, and the others stayed
 module _ (n number : ℕ) (f g : ℕ → List Label) (x : Label) (lt : number < n) (others : (i : ℕ) → i ≢ number → g i ≡ f i)
-    (takes : Takes (f number) x (g number)) where
+    (takes : Takes covers (f number) x (g number)) where
   to_new : (i : ℕ) (y : Label) → i < n → Contains (f i) y → (i ≡ number → Contains (g i) y) → Contains
       (joined_below n g) y
   to_new i y within at here =
@@ -111,7 +112,7 @@ module _ (n number : ℕ) (f g : ℕ → List Label) (x : Label) (lt : number < 
       (subst (λ ms. Contains ms y) (others there.0 other) there.2)))
       (cases_eq there.0 number)
 
-  pub takes_joined : Takes (joined_below n f) x (joined_below n g)
+  pub takes_joined : Takes covers (joined_below n f) x (joined_below n g)
   takes_joined = record {
     gathers = record {
       still = still_new;
@@ -168,17 +169,17 @@ module _ (moves : List LastMove) (bags : List Classed) (number : ℕ) (bag : Cla
   changed = set_value_at bags number members
 
   -- the label was taken into the bag
-  pub takes_set : (x : Label) → Takes (wholes moves bag.1) x (wholes moves members) →
-      Takes (in_bags moves bags) x (in_bags moves changed)
+  pub takes_set : (x : Label) → Takes covers (wholes moves bag.1) x (wholes moves members) →
+      Takes covers (in_bags moves bags) x (in_bags moves changed)
   takes_set x takes =
-      subst (λ n. Takes (in_bags moves bags) x (joined_below n (labels_at moves changed)))
+      subst (λ n. Takes covers (in_bags moves bags) x (joined_below n (labels_at moves changed)))
       (sym (length-set_value_at bags number members))
       (takes_joined (length bags) number (labels_at moves bags) (labels_at moves changed) x
       (slice_get_within bags number bag is)
       (λ i differ. ap (λ (o : Option Classed). wholes moves (option_map_or (λ (b : Classed). b.1) o []))
       (set_other bags number i members differ))
-      (subst (λ ms. Takes ms x (labels_at moves changed number)) (sym (labels_there moves bags number bag is))
-      (subst (Takes (wholes moves bag.1) x) (sym (labels_there moves changed number (bag.0, members)
+      (subst (λ ms. Takes covers ms x (labels_at moves changed number)) (sym (labels_there moves bags number bag is))
+      (subst (Takes covers (wholes moves bag.1) x) (sym (labels_there moves changed number (bag.0, members)
       (set_own bags number bag members is))) takes)))
 
   -- they stay bags of their classes
@@ -365,7 +366,7 @@ inserted class members (b ∷ bags) lacks =
 -- the label that is covered in the bag that was found is covered
 pub covered_found : (moves : List LastMove) (bags : List Classed) (number : ℕ) (bag : Classed) (x : KeptLabel) (taken : Option Move) →
     slice_get bags number ≡ Some bag → AreBagsOf moves bags → bag.0 ≡ class_of (whole_by taken x) →
-    has_cover is_as_good bag.1 x ≡ true → Takes (in_bags moves bags) (whole_by taken x) (in_bags moves bags)
+    has_cover is_as_good bag.1 x ≡ true → Takes covers (in_bags moves bags) (whole_by taken x) (in_bags moves bags)
 covered_found moves bags number bag x taken is are class h =
     let there = covered_whole moves bag.0 bag.1 x taken (are.0 number bag is).classed class h in
     let some =
@@ -403,7 +404,7 @@ pub takes_found : {E : Type 0} (result : Result (Unit {0}) E) (moves : List Last
     (bag : Classed) (x : KeptLabel) (members : List KeptLabel) → slice_get bags number ≡ Some bag → AreBagsOf moves bags →
     IsKeptOf moves bag.0 x → OnOk result (Gathers is_as_good bag.1 (x ∷ []) members) → OnErr result (members ≡ bag.1) →
     OnOk result ((k : KeptLabel) → Contains bag.1 k → is_as_good x k ≡ false → Contains members k) →
-    OnOk result (Takes (in_bags moves bags) (whole moves x) (in_bags moves (set_value_at bags number members)))
+    OnOk result (Takes covers (in_bags moves bags) (whole moves x) (in_bags moves (set_value_at bags number members)))
 takes_found {E} (Ok u) moves bags number bag x members is are of_x gathers err keeps =
     takes_set moves bags number bag members is (whole moves x)
     (takes_whole moves bag.0 bag.1 members x (are.0 number bag is).classed

@@ -11,6 +11,7 @@ use Rattle.indexmap.specs.IndexSet.{insert_key}
 use Rattle.feed_rows.specs.declared.states.Move.{Move}
 use Rattle.label_bag.specs.Bags.{Apart, AreApart, Gathers, IsUncovered, covers as has_cover}
 use Rattle.plain_laws.proofs.Laws.{All-from, Contains-cons_cases, Contains-cons_first, Contains-map, list_any_tells, map-tells, slice_get-append_left}
+use Rattle.search_laws.specs.Stores.{Takes}
 use Rattle.round_labels.specs.declared.kept_label.KeptLabel.{KeptLabel}
 use Rattle.round_labels.specs.declared.label.Label.{Label}
 use Rattle.round_labels.specs.declared.label_class.LabelClass.{LabelClass}
@@ -19,7 +20,7 @@ use Rattle.round_labels.specs.CoverLaws.{as_good-holds, as_good-tells, cover_law
 use Rattle.round_labels.specs.Kept.{Grows, IsNumbered, comes_no_later, is_as_good, is_no_dearer, move_at, whole, whole_by, wholes}
 use Rattle.round_labels.specs.Labels.{class_of, covers, same_class}
 use Rattle.round_labels.specs.LastMoves.{same_last}
-use Rattle.round_labels.specs.Bags.{IsBagOf, IsKeptOf, Takes}
+use Rattle.round_labels.specs.Bags.{IsBagOf, IsKeptOf}
 
 -- ---- covers in lists
 
@@ -236,7 +237,7 @@ module _ (moves : List LastMove) (class : LabelClass) where
         both_ways (covers (whole moves x) y) differs
         (subst (λ z. covers (whole moves x) z ≡ true) k.2 (covers_of x k.0 of_x of_k good))))))
 
-    pub takes_whole : Takes (wholes moves old) (whole moves x) (wholes moves new)
+    pub takes_whole : Takes covers (wholes moves old) (whole moves x) (wholes moves new)
     takes_whole = record {
       gathers = record {
         still = still_whole;

@@ -4,6 +4,7 @@ use Rattle.std.specs.Option.{option_map_or}
 use Rattle.label_bag.specs.Bags.{Gathers, AreApart}
 use Rattle.label_bag.specs.Flights.{IsFlight}
 use Rattle.plain_laws.specs.Plain.{joined_below}
+use Rattle.search_laws.specs.Stores.{gathered as gathered_by}
 use Rattle.round_labels.specs.declared.kept_label.KeptLabel.{KeptLabel}
 use Rattle.round_labels.specs.declared.label.Label.{Label}
 use Rattle.round_labels.specs.declared.label_class.LabelClass.{LabelClass}
@@ -44,14 +45,9 @@ AreBagsOf moves bags =
     ((number : ℕ) (bag : LabelClass × List KeptLabel) → slice_get bags number ≡ Some bag → IsBagOf moves bag.0 bag.1)
     × AllPairs (λ (a : LabelClass × List KeptLabel) (b : LabelClass × List KeptLabel). same_class a.0 b.0 ≡ false) bags
 
--- the label was taken in, and labels that it doesn't cover stay
-pub record Takes (old : List Label) (label : Label) (new : List Label) : Type 0 where
-  pub gathers : Gathers covers old (label ∷ []) new
-  pub keeps : (x : Label) → Contains old x → covers label x ≡ false → Contains new x
-
 -- those with so many rides
 abbrev pub has_rides : ℕ → Label → Bool
 has_rides rides label = label.rides == rides
 
 abbrev pub gathered : ℕ → List Label → List Label
-gathered rides labels = filter (has_rides rides) labels
+gathered = gathered_by (λ x. x.rides)

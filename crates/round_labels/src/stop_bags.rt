@@ -2,9 +2,10 @@
 ghost use Rattle.std.specs.Prelude.{◌≡◌, ◌++◌, ◌∷◌, [], false, filter, All, Contains, IfOk, OnErr, OnOk};
 ghost use Rattle.label_bag.specs.Bags.{AreApart, Gathers, IsUncovered};
 ghost use Rattle.label_bag.specs.Bags.{covers as has_cover};
+ghost use Rattle.search_laws.specs.Stores.{Takes};
 ghost use Rattle.round_labels.specs.Kept.{IsKeepable, IsNumbered, is_as_good, whole_by, wholes};
 ghost use Rattle.round_labels.specs.Labels.{class_of, covers};
-ghost use Rattle.round_labels.specs.Bags.{AreBagsOf, IsBag, Takes, gathered, has_rides, in_bags};
+ghost use Rattle.round_labels.specs.Bags.{AreBagsOf, IsBag, gathered, has_rides, in_bags};
 
 use crate::kept_label::KeptLabel;
 use crate::label::Label;
@@ -143,7 +144,7 @@ impl StopBags {
     /// Want of memory.
     pub fn offer(&mut self, label: &Label) -> Result<(), AllocError>
         requires { IsKeepable label.now }
-        ensures { OnOk result (Takes self.old label.now self.new) }
+        ensures { OnOk result (Takes covers self.old label.now self.new) }
     {
         self.take(label.class(), &KeptLabel::of(label), &label.taken)
     }
@@ -156,7 +157,7 @@ impl StopBags {
         taken: &Option<Move>,
     ) -> Result<(), AllocError>
         requires { class ≡ class_of (whole_by taken.now label.now) }
-        ensures { OnOk result (Takes self.old (whole_by taken.now label.now) self.new) }
+        ensures { OnOk result (Takes covers self.old (whole_by taken.now label.now) self.new) }
     {
         match self.bags.get_index_of(&class) {
             Some(number) => {

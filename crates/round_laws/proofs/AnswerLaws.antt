@@ -16,15 +16,18 @@ use Rattle.feed_rows.specs.SoundTable.{EndsExactly}
 use Rattle.plain_laws.proofs.Laws.{All-slice_get, Contains-slice_get, list_any-place, collect_below_some, collect_below_tells, IsCollected}
 use Rattle.feed_laws.proofs.ExactLaws.{is_covered, exact_of_front, covers_offers}
 use Rattle.feed_laws.proofs.ParetoLaws.{at_most-trans}
-use Rattle.round_laws.specs.Futility.{MayLack}
-use Rattle.round_laws.specs.LabelSteps.{IsStated, IsLabelEnd}
-use Rattle.round_laws.specs.LinkedTables.{AreLinked, IsCoveredBy, CoversStarts, AreClosed, IsFound, IsFinal, AreFinals}
-use Rattle.round_laws.proofs.CoverLaws.{ends_no_worse}
-use Rattle.round_laws.proofs.FutilityLaws.{IsUpward}
-use Rattle.round_laws.proofs.OutdoneLaws.{lack_futile}
+use Rattle.search_laws.specs.Cuts.{MayLack}
+use Rattle.search_laws.specs.Links.{AreClosed, AreLinked, CoversStarts}
+use Rattle.search_laws.specs.Ways.{IsUpward}
+use Rattle.search_laws.proofs.CoverLaws.{each_found as reaches_found}
+use Rattle.round_laws.specs.Futility.{outdoes}
+use Rattle.round_laws.specs.LabelSteps.{ways}
+use Rattle.round_laws.specs.LinkedTables.{AreFinals, IsFinal, IsFound, told}
+use Rattle.round_laws.proofs.CoverLaws.{lawful}
+use Rattle.round_laws.proofs.OutdoneLaws.{outdone_cuts}
 use Rattle.round_laws.proofs.EndLaws.{entry_of_end, part_of_entry, end_of_entry}
-use Rattle.round_laws.proofs.PartLaws.{item_at, stated_of_part}
-use Rattle.round_laws.proofs.TableLaws.{linked_stated, is_traced, coverer, all_served}
+use Rattle.round_laws.proofs.PartLaws.{item_at}
+use Rattle.round_laws.proofs.TableLaws.{is_reached, is_traced}
 
 -- the entry by which a final ends
 record IsFinalEntry (feed : FeedRows) (query : Query) (table : RoundTable) (final : Final) : Type 0 where
@@ -34,7 +37,7 @@ record IsFinalEntry (feed : FeedRows) (query : Query) (table : RoundTable) (fina
   pub triple : entry.triple ≡ final.triple
 
 final_entry : (feed : FeedRows) (query : Query) (table : RoundTable) (final : Final) →
-    AreLinked feed query table.labels → IsFinal feed query table.labels final → IsFinalEntry feed query table final
+    AreLinked (ways feed query) told table.labels → IsFinal feed query table.labels final → IsFinalEntry feed query table final
 final_entry feed query table final linked f =
     let t = is_traced feed query table.labels final.label f.label linked f.is in
     let known = ap (λ (n : ℕ). traced table.labels n final.label) f.end.rides ∙ t.is in
@@ -45,7 +48,7 @@ final_entry feed query table final linked f =
       triple = refl;
     }
 
-module _ (feed : FeedRows) (query : Query) (table : RoundTable) (linked : AreLinked feed query table.labels)
+module _ (feed : FeedRows) (query : Query) (table : RoundTable) (linked : AreLinked (ways feed query) told table.labels)
     (right : All (IsFinal feed query table.labels) table.finals) where
   -- the entry of the final at this place
   abbrev entry_at : ℕ → Option Entry
@@ -112,43 +115,34 @@ module _ (feed : FeedRows) (query : Query) (table : RoundTable) (linked : AreLin
         (subst (λ (t : Triple). at_most t triple ≡ true) (sym e.3) some.4)
 
 -- where some final is at most a triple, some is at most each that this is at most
-pub found_upward : (finals : List Final) → IsUpward (IsFound finals)
-found_upward finals a b below some = (some.0, some.1, some.2, some.3, at_most-trans some.1.triple a b some.4 below)
+pub found_upward : (feed : FeedRows) (query : Query) (finals : List Final) → IsUpward (ways feed query) (IsFound finals)
+found_upward feed query finals a b below some =
+    (some.0, some.1, some.2, some.3, at_most-trans some.1.triple a b some.4 below)
 
--- what is found, by finals or else
-module _ (feed : FeedRows) (query : Query) (whole : Bool) (table : RoundTable) (sound : IsSoundFeed feed)
-    (FoundTriple : Triple → Type 0) (upward : IsUpward FoundTriple) (by_finals : (t : Triple) → IsFound table.finals t → FoundTriple t)
-    (linked : AreLinked feed query table.labels) (starts : CoversStarts feed query table.labels)
-    (closed : AreClosed feed query (MayLack feed query whole FoundTriple) table.labels)
-    (finals : AreFinals feed query table.labels table.finals) where
-  -- an end of facts that are covered is found
-  covered_found : (a : LabelFacts) (last : StopId) (triple : Triple) → IsStated a → IsCoveredBy table.labels a →
-      IsLabelEnd feed query a last triple → FoundTriple triple
-  covered_found a last triple stated' some end =
-      let c = coverer table.labels a some in
-      let stated = linked_stated feed query (take c.number table.labels) c.label (linked c.number c.label c.is) in
-      let b = ends_no_worse feed query c.label.facts a last triple stated stated' c.covers end in
-      let is_label = Contains-slice_get table.labels c.number c.label c.is in
-      upward b.triple triple b.below (by_finals b.triple (finals.all c.label last b.triple is_label b.end))
-
-  -- so is what each entry of the query comes to
-  pub each_found : (entry : Entry) → IsEntry feed query entry → FoundTriple entry.triple
-  each_found entry is =
-      let n = end_of_entry feed query entry sound is in
-      let part = part_of_entry entry in
-      ⊎_elim (λ some. covered_found n.a entry.journey.last entry.triple (stated_of_part feed query part n.a n.has) some n.end)
-      (λ lack. lack_futile feed query sound FoundTriple upward whole n.a lack 0 entry.triple (entry.journey.last, n.end))
-      (all_served feed query sound FoundTriple upward whole table.labels linked starts closed part n.a n.has)
+-- what each entry of the query comes to is found, by finals or else
+pub each_found : (feed : FeedRows) (query : Query) (whole : Bool) (table : RoundTable) → IsSoundFeed feed →
+    (FoundTriple : Triple → Type 0) → IsUpward (ways feed query) FoundTriple →
+    ((t : Triple) → IsFound table.finals t → FoundTriple t) → AreLinked (ways feed query) told table.labels →
+    CoversStarts (ways feed query) told table.labels →
+    AreClosed (ways feed query) told (MayLack (ways feed query) (outdoes feed query) whole FoundTriple) table.labels →
+    AreFinals feed query table.labels table.finals → (entry : Entry) → IsEntry feed query entry → FoundTriple entry.triple
+each_found feed query whole table sound FoundTriple upward by_finals linked starts closed finals entry is =
+    let n = end_of_entry feed query entry sound is in
+    reaches_found (ways feed query) (lawful feed query) told (outdoes feed query) (outdone_cuts feed query sound) FoundTriple
+    upward whole table.labels linked starts closed
+    (λ label last triple at end. by_finals triple (finals.all label last triple at end)) n.a.rides n.a entry.journey.last
+    entry.triple (is_reached feed query (part_of_entry entry) n.a n.has) n.end
 
 module _ (feed : FeedRows) (query : Query) (whole : Bool) (table : RoundTable) (sound : IsSoundFeed feed)
-    (linked : AreLinked feed query table.labels) (starts : CoversStarts feed query table.labels)
-    (closed : AreClosed feed query (MayLack feed query whole (IsFound table.finals)) table.labels)
+    (linked : AreLinked (ways feed query) told table.labels) (starts : CoversStarts (ways feed query) told table.labels)
+    (closed : AreClosed (ways feed query) told
+    (MayLack (ways feed query) (outdoes feed query) whole (IsFound table.finals)) table.labels)
     (finals : AreFinals feed query table.labels table.finals) where
   -- some final is at most each entry of the query
   each_bettered : (entry : Entry) → IsEntry feed query entry → IsFound table.finals entry.triple
   each_bettered =
-      each_found feed query whole table sound (IsFound table.finals) (found_upward table.finals) (λ t found. found) linked starts
-      closed finals
+      each_found feed query whole table sound (IsFound table.finals) (found_upward feed query table.finals) (λ t found. found)
+      linked starts closed finals
 
   -- the entries by which the finals end are the exact answer, and cover whatever is offered
   pub exact_entries : (entries : List Entry) → entries_of table ≡ Some entries →

@@ -29,8 +29,9 @@ use Rattle.plain_laws.proofs.Laws.{filled_and-true, int_le-true, list_any-place}
 use Rattle.feed_laws.proofs.RideLaws.{ride_facts_timed}
 use Rattle.feed_laws.proofs.SoundTrips.{sound_trip}
 use Rattle.fare_laws.proofs.FloorLaws.{low_move, low_price, floor_below, min_second}
-use Rattle.round_laws.specs.Futility.{LeadsBy, some_takes_back, least_price, least_end, is_within}
-use Rattle.round_laws.specs.LabelSteps.{stand_of_facts, IsCaughtRide, IsLabelStep}
+use Rattle.search_laws.specs.Ways.{LeadsBy}
+use Rattle.round_laws.specs.Futility.{some_takes_back, least_price, least_end, is_within}
+use Rattle.round_laws.specs.LabelSteps.{stand_of_facts, ways, IsCaughtRide, IsLabelStep}
 use Rattle.round_laws.proofs.IntLaws.{as_much, no_more}
 use Rattle.round_laws.proofs.TimeLaws.{later_end}
 
@@ -199,7 +200,7 @@ module _ (feed : FeedRows) (query : Query) (whole : Bool) (sound : IsSoundFeed f
       }))
 
   -- it betters all that so many more rides lead to
-  pub ahead_leads : (n : ℕ) (a : LabelFacts) (other : Triple) → IsAheadOf a → LeadsBy feed query n a other → at_most triple other ≡ true
+  pub ahead_leads : (n : ℕ) (a : LabelFacts) (other : Triple) → IsAheadOf a → LeadsBy (ways feed query) n a other → at_most triple other ≡ true
   ahead_leads zero a other is leads =
       let t = ahead_tells _ _ _ triple is in
       let e = leads.1 in
@@ -212,5 +213,3 @@ module _ (feed : FeedRows) (query : Query) (whole : Bool) (sound : IsSoundFeed f
       })
   ahead_leads (suc n) a other is leads =
       ahead_leads n leads.2 other (ahead_after a leads.2 leads.0 leads.1 leads.3 is) leads.4
-
--- ---- ends of the last ride

@@ -19,8 +19,8 @@ use Rattle.feed_rows.specs.PartialJourneys.{PartialJourney, LabelFacts, label_fa
 use Rattle.feed_rows.specs.RoundTables.{with_ride}
 use Rattle.feed_rows.specs.SoundFeed.{IsSoundFeed}
 use Rattle.feed_laws.proofs.StandLaws.{places_of_paid}
-use Rattle.round_laws.specs.Futility.{LeadsBy}
-use Rattle.round_laws.specs.LabelSteps.{HasFacts, IsLabelStep, IsLabelEnd}
+use Rattle.search_laws.specs.Ways.{LeadsBy}
+use Rattle.round_laws.specs.LabelSteps.{HasFacts, IsLabelStep, IsLabelEnd, ways}
 use Rattle.round_laws.proofs.EndLaws.{part_of_entry, end_of_entry}
 use Rattle.round_laws.proofs.LastRideLaws.{went_on}
 use Rattle.round_laws.proofs.PartLaws.{parts_of_facts, part_paid, length_of_legs}
@@ -129,11 +129,11 @@ module _ (feed : FeedRows) (query : Query) where
 
     -- whatever rides lead to from one that begins with it, they lead to from it
     leads_back : (k n : ℕ) (longer : PartialJourney) (b : LabelFacts) (triple : Triple) → HasFacts feed query longer b →
-        Begins part longer → length longer.rides ≡ k + length part.rides → LeadsBy feed query n b triple →
-        (m : ℕ) × LeadsBy feed query m a triple
+        Begins part longer → length longer.rides ≡ k + length part.rides → LeadsBy (ways feed query) n b triple →
+        (m : ℕ) × LeadsBy (ways feed query) m a triple
     leads_back zero n longer b triple h begins long leads = (
       n,
-      subst (λ (x : LabelFacts). LeadsBy feed query n x triple)
+      subst (λ (x : LabelFacts). LeadsBy (ways feed query) n x triple)
           (same_facts_of longer b h (same_part longer b h begins (omega (arith, long)))) leads,
     )
     leads_back (suc k) n longer b triple h begins long leads =
@@ -146,7 +146,7 @@ module _ (feed : FeedRows) (query : Query) where
 
     -- so each triple that completes it is one that rides lead to
     pub leads_of_completion : (triple : Triple) → IsSoundFeed feed → IsCompletion feed query part triple →
-        (m : ℕ) × LeadsBy feed query m a triple
+        (m : ℕ) × LeadsBy (ways feed query) m a triple
     leads_of_completion triple sound c =
         let e = end_of_entry feed query c.0 sound c.1 in
         let sum = length-append part.rides c.2.rides.0 in

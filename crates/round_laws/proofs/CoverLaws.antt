@@ -22,9 +22,10 @@ use Rattle.feed_rows.specs.Legs.{leg_facts}
 use Rattle.feed_rows.specs.ParetoTriples.{at_most}
 use Rattle.feed_rows.specs.PartialJourneys.{LabelFacts}
 use Rattle.fare_laws.proofs.LeadLaws.{leads_too}
-use Rattle.round_laws.specs.LabelSteps.{IsStated, stand_of_facts, facts_after, IsCaughtRide, IsLabelStep, IsLabelEnd}
+use Rattle.search_laws.specs.Ways.{AreLawful, EndsNoWorse, IsFollowed}
+use Rattle.round_laws.specs.LabelSteps.{IsStated, stand_of_facts, facts_after, ways, IsCaughtRide, IsLabelStep, IsLabelEnd}
 use Rattle.round_laws.proofs.IntLaws.{as_much, no_more}
-use Rattle.round_laws.proofs.PartLaws.{same_stand}
+use Rattle.round_laws.proofs.PartLaws.{same_stand, stated_of_start, stated_of_step}
 
 -- and what those cover that they cover
 pub covers-trans : (a b c : LabelFacts) → Covers a b → Covers b c → Covers a c
@@ -83,13 +84,6 @@ catches_too feed query a b ride facts stated stated' covers c = record {
 
 -- ---- one more ride
 
--- a step by the ride that leads to facts which cover these
-pub record IsFollowed (feed : FeedRows) (query : Query) (a : LabelFacts) (ride : Ride) (b' : LabelFacts) : Type 0 where
-  pub move : Move
-  pub b : LabelFacts
-  pub step : IsLabelStep feed query a ride move b
-  pub covers : Covers b b'
-
 -- the facts after the same ride cover the others, where the moves lead to one state and no more is paid
 covers_after : (a a' : LabelFacts) (facts : RideFacts) (move move' : Move) → a.rides ≤ a'.rides →
     move.state ≡ move'.state → move.held ≡ move'.held → (a.paid +ℤ move.paid.0) ≤ℤ (a'.paid +ℤ move'.paid.0) →
@@ -108,7 +102,7 @@ covers_after a a' facts move move' few state held le = record {
 
 -- whatever goes on from facts goes on from those that cover them, and leads to facts that cover where it leads
 pub follow : (feed : FeedRows) (query : Query) (a a' : LabelFacts) (ride : Ride) (move' : Move) (b' : LabelFacts) →
-    IsStated a → IsStated a' → Covers a a' → IsLabelStep feed query a' ride move' b' → IsFollowed feed query a ride b'
+    IsStated a → IsStated a' → Covers a a' → IsLabelStep feed query a' ride move' b' → IsFollowed (ways feed query) a ride b'
 follow feed query a a' ride move' b' stated stated' covers s =
     let leg = leg_facts feed s.facts in
     let pays =
@@ -131,13 +125,6 @@ follow feed query a a' ride move' b' stated stated' covers s =
 
 -- ---- ends
 
--- an end at the same stop that is no worse
-pub record EndsNoWorse (feed : FeedRows) (query : Query) (a : LabelFacts)
-    (last : StopId) (worse : Triple) : Type 0 where
-  pub triple : Triple
-  pub end : IsLabelEnd feed query a last triple
-  pub below : at_most triple worse ≡ true
-
 -- the triple with this arrival
 abbrev end_at : LabelFacts → ℤ → Triple
 end_at a arrival =
@@ -153,7 +140,7 @@ end_below a arrival worse = by arrival worse.arrival.0 (price_so_far a) worse.pr
 
 -- whatever covered facts end in, those that cover them end in what is no worse
 pub ends_no_worse : (feed : FeedRows) (query : Query) (a a' : LabelFacts) (last : StopId) (worse : Triple) →
-    IsStated a → IsStated a' → Covers a a' → IsLabelEnd feed query a' last worse → EndsNoWorse feed query a last worse
+    IsStated a → IsStated a' → Covers a a' → IsLabelEnd feed query a' last worse → EndsNoWorse (ways feed query) a last worse
 unfolding end_arrival
 ends_no_worse feed query a a' last worse stated stated' covers e =
     by (way_out feed query (stand_of_facts a') last) refl e.arrives
@@ -165,13 +152,13 @@ ends_no_worse feed query a a' last worse stated stated' covers e =
     price p p' q le e = omega (arith, ints, le, e)
 
     by : (way : Option ℕ) → way_out feed query (stand_of_facts a') last ≡ way →
-        option_map (λ s. a'.arrival +ℤ pos s) way ≡ Some worse.arrival.0 → EndsNoWorse feed query a last worse
+        option_map (λ s. a'.arrival +ℤ pos s) way ≡ Some worse.arrival.0 → EndsNoWorse (ways feed query) a last worse
     by None is arrives = absurd (none-some _ arrives)
     by (Some s) is arrives =
         let later = sooner a.arrival a'.arrival worse.arrival.0 s covers.arrival (same_Some _ _ arrives) in
         let way = same_way_out feed query a a' stated stated' covers last ∙ is in
         record {
-          triple = end_at a (a.arrival +ℤ pos s);
+          result = end_at a (a.arrival +ℤ pos s);
           end = record {
             ends = e.ends;
             arrives = ap (option_map (λ (w : ℕ). a.arrival +ℤ pos w)) way;
@@ -183,3 +170,15 @@ ends_no_worse feed query a a' last worse stated stated' covers e =
               end_below a (a.arrival +ℤ pos s) worse later (omega (arith, covers.rides, e.rides))
               (price (price_so_far a) (price_so_far a') worse.price.0 covers.price e.price);
         }
+
+-- ---- the laws of a search
+
+-- what facts cover goes on and ends as they do, and each way's fares are in a state exactly where it has a ride
+pub lawful : (feed : FeedRows) (query : Query) → AreLawful (ways feed query)
+lawful feed query = record {
+  starts = λ a start. subst IsStated (sym start.1) (stated_of_start query a.stop);
+  steps = λ a b ride move step. stated_of_step feed query a ride move b step;
+  onward = covers-trans;
+  follow = λ a a' ride move b stated stated' covers step. follow feed query a a' ride move b stated stated' covers step;
+  ends = λ a a' last worse stated stated' covers end. ends_no_worse feed query a a' last worse stated stated' covers end;
+}

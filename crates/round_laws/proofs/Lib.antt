@@ -6,7 +6,6 @@ pub mod LastRideLaws
 pub mod CoverLaws
 pub mod TimeLaws
 pub mod EndLaws
-pub mod FutilityLaws
 pub mod BoundLaws
 pub mod OutdoneLaws
 pub mod TableLaws

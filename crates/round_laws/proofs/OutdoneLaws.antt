@@ -15,10 +15,11 @@ use Rattle.feed_rows.specs.ParetoTriples.{at_most}
 use Rattle.feed_rows.specs.PartialJourneys.{LabelFacts}
 use Rattle.feed_rows.specs.SoundFeed.{IsSoundFeed}
 use Rattle.fare_laws.proofs.FloorLaws.{floor_below, min_second}
-use Rattle.round_laws.specs.Futility.{LeadsBy, IsFutile, MayLack, some_takes_back, least_price, least_end, is_within}
-use Rattle.round_laws.specs.LabelSteps.{IsStated, IsLabelStep}
+use Rattle.search_laws.specs.Cuts.{AreCuts, MayLack}
+use Rattle.search_laws.specs.Ways.{IsUpward, LeadsBy}
+use Rattle.round_laws.specs.Futility.{some_takes_back, least_price, least_end, is_within, outdoes}
+use Rattle.round_laws.specs.LabelSteps.{IsLabelStep, ways}
 use Rattle.round_laws.proofs.BoundLaws.{ahead_tells, ahead_passes, ahead_after, ahead_leads}
-use Rattle.round_laws.proofs.FutilityLaws.{IsUpward, futile_after, futile_below}
 use Rattle.round_laws.proofs.IntLaws.{as_much, no_more}
 
 -- ---- how little can follow
@@ -109,7 +110,7 @@ module _ (feed : FeedRows) (query : Query) (triple : Triple) where
 
   -- it betters all that rides lead to from there
   pub outdone_leads : (n : ℕ) (a : LabelFacts) (other : Triple) → IsSoundFeed feed → Outdoes a →
-      LeadsBy feed query n a other →
+      LeadsBy (ways feed query) n a other →
       at_most triple other ≡ true
   outdone_leads n a other sound is leads = ahead_leads feed query true sound triple n a other
       (sym (outdone_is a) ∙ is) leads
@@ -135,34 +136,20 @@ outdone_up feed query less triple a below is =
 
 -- ---- what may be lacking
 
-module _ (feed : FeedRows) (query : Query) (sound : IsSoundFeed feed) (FoundTriple : Triple → Type 0)
-    (upward : IsUpward FoundTriple) where
-  -- what a triple that is found is ahead of may be lacking
-  pub ahead_lacks : (whole : Bool) (triple : Triple) (a : LabelFacts) → FoundTriple triple →
-      is_within a.arrival a.rides (least_end feed query whole a) triple ≡ true → MayLack feed query whole FoundTriple a
-  ahead_lacks true triple a found ahead = (triple, found, outdone_of_ahead feed query triple a ahead)
-  ahead_lacks false triple a found ahead =
-      λ n other leads. upward triple other (ahead_leads feed query false sound triple n a other ahead leads) found
+-- what is outdone is cut off
+pub outdone_cuts : (feed : FeedRows) (query : Query) → IsSoundFeed feed → AreCuts (ways feed query) (outdoes feed query)
+outdone_cuts feed query sound = record {
+  after = λ triple a b ride move step outdone. outdone_after feed query triple a b ride move sound step outdone;
+  below = λ triple a b covers outdone. outdone_below feed query triple a b covers outdone;
+  leads = λ triple n a other outdone leads. outdone_leads feed query triple n a other sound outdone leads;
+}
 
-  -- all that it leads to is found
-  pub lack_futile : (whole : Bool) (a : LabelFacts) → MayLack feed query whole FoundTriple a → IsFutile feed query FoundTriple a
-  lack_futile true a lack =
-      λ n other leads. upward lack.0 other (outdone_leads feed query lack.0 n a other sound lack.2 leads) lack.1
-  lack_futile false a lack = lack
-
-  -- so may be whatever goes on from it
-  pub lack_after : (whole : Bool) (a b : LabelFacts) (ride : Ride) (move : Move) →
-      IsLabelStep feed query a ride move b →
-      MayLack feed query whole FoundTriple a → MayLack feed query whole FoundTriple b
-  lack_after true a b ride move step lack =
-      (lack.0, lack.1, outdone_after feed query lack.0 a b ride move sound step lack.2)
-  lack_after false a b ride move step lack = futile_after feed query FoundTriple a b ride move step lack
-
--- and whatever it covers
-pub lack_below : (feed : FeedRows) (query : Query) (FoundTriple : Triple → Type 0) → IsUpward FoundTriple → (whole : Bool)
-    (a b : LabelFacts) →
-    IsStated a → IsStated b → Covers a b → MayLack feed query whole FoundTriple a → MayLack feed query whole FoundTriple b
-lack_below feed query FoundTriple upward true a b stated stated' covers lack =
-    (lack.0, lack.1, outdone_below feed query lack.0 a b covers lack.2)
-lack_below feed query FoundTriple upward false a b stated stated' covers lack =
-    futile_below feed query FoundTriple upward a b stated stated' covers lack
+-- what a triple that is found is ahead of may be lacking
+pub ahead_lacks : (feed : FeedRows) (query : Query) → IsSoundFeed feed → (FoundTriple : Triple → Type 0) →
+    IsUpward (ways feed query) FoundTriple → (whole : Bool) (triple : Triple) (a : LabelFacts) → FoundTriple triple →
+    is_within a.arrival a.rides (least_end feed query whole a) triple ≡ true →
+    MayLack (ways feed query) (outdoes feed query) whole FoundTriple a
+ahead_lacks feed query sound FoundTriple upward true triple a found ahead =
+    (triple, found, outdone_of_ahead feed query triple a ahead)
+ahead_lacks feed query sound FoundTriple upward false triple a found ahead =
+    λ n other leads. upward triple other (ahead_leads feed query false sound triple n a other ahead leads) found

@@ -1,38 +1,17 @@
--- What more rides lead to, and when a search needn't go on, since all that is found already.
-use Rattle.std.specs.Prelude.{ℕ, zero, suc, ◌-◌, Bool, true, false, ◌&&◌, ◌||◌, ◌==◌, if◌then◌else◌, nat_le, int_le, is_none, ℤ, pos, ◌+ℤ◌, ◌*ℤ◌, IsTrue}
+-- When a search needn't go on, since all that it can come to is found already.
+use Rattle.std.specs.Prelude.{ℕ, ◌-◌, Bool, ◌&&◌, ◌||◌, ◌==◌, if◌then◌else◌, nat_le, int_le, is_none, ℤ, pos, ◌+ℤ◌, ◌*ℤ◌, IsTrue}
 use Rattle.std.specs.List.{list_any}
-use Rattle.transit_base.specs.declared.numbers.StopId.{StopId}
 use Rattle.feed_rows.specs.declared.fares.Triple.{Triple}
 use Rattle.feed_rows.specs.declared.journeys.Query.{Query}
-use Rattle.feed_rows.specs.declared.journeys.Ride.{Ride}
-use Rattle.feed_rows.specs.declared.states.Move.{Move}
 use Rattle.feed_rows.specs.Codes.{change_alone}
 use Rattle.feed_rows.specs.FareFloor.{fare_floor, is_outdone, least_so_far}
 use Rattle.feed_rows.specs.FeedRows.{FeedRows}
 use Rattle.feed_rows.specs.LabelCover.{price_so_far}
 use Rattle.feed_rows.specs.PartialJourneys.{LabelFacts}
-use Rattle.round_laws.specs.LabelSteps.{IsLabelStep, IsLabelEnd}
 
--- ---- what more rides lead to
-
--- from such facts so many more rides lead to a journey's end with this triple
-abbrev pub LeadsBy : FeedRows → Query → ℕ → LabelFacts → Triple → Type 0
-LeadsBy feed query zero a triple = (last : StopId) × IsLabelEnd feed query a last triple
-LeadsBy feed query (suc n) a triple =
-    (ride : Ride) × (move : Move) × (b : LabelFacts) × IsLabelStep feed query a ride move b × LeadsBy feed query n b triple
-
--- whatever they lead to is found
-abbrev pub IsFutile : FeedRows → Query → (Triple → Type 0) → LabelFacts → Type 0
-IsFutile feed query FoundTriple a = (n : ℕ) (triple : Triple) → LeadsBy feed query n a triple → FoundTriple triple
-
--- some triple that is found outdoes such facts
-abbrev pub IsOutdoneBy : FeedRows → Query → (Triple → Type 0) → LabelFacts → Type 0
-IsOutdoneBy feed query FoundTriple a = (triple : Triple) × FoundTriple triple × IsTrue (is_outdone feed query triple a)
-
--- a search that is to be whole may lack what is outdone, and another whatever is futile
-abbrev pub MayLack : FeedRows → Query → Bool → (Triple → Type 0) → LabelFacts → Type 0
-MayLack feed query true FoundTriple a = IsOutdoneBy feed query FoundTriple a
-MayLack feed query false FoundTriple a = IsFutile feed query FoundTriple a
+-- a triple outdoes such facts
+abbrev pub outdoes : FeedRows → Query → Triple → LabelFacts → Type 0
+outdoes feed query triple a = IsTrue (is_outdone feed query triple a)
 
 -- ---- how little it can cost
 

@@ -11,10 +11,12 @@ use Rattle.feed_rows.specs.FareSteps.{move_after}
 use Rattle.feed_rows.specs.FeedRows.{FeedRows}
 use Rattle.feed_rows.specs.Journeys.{stands_for, is_caught}
 use Rattle.feed_rows.specs.JourneyStands.{Stand, way_to, end_arrival}
-use Rattle.feed_rows.specs.LabelCover.{price_so_far}
+use Rattle.feed_rows.specs.LabelCover.{Covers, price_so_far}
 use Rattle.feed_rows.specs.Legs.{leg_facts}
+use Rattle.feed_rows.specs.ParetoTriples.{at_most}
 use Rattle.feed_rows.specs.PartialJourneys.{PartialJourney, LabelFacts, IsPartialJourney, label_facts}
 use Rattle.feed_rows.specs.Rides.{ride_facts}
+use Rattle.search_laws.specs.Ways.{Ways}
 
 -- a search compares this partial journey of the query by these facts
 pub record HasFacts (feed : FeedRows) (query : Query) (part : PartialJourney) (a : LabelFacts) : Type 0 where
@@ -74,3 +76,14 @@ pub record IsLabelEnd (feed : FeedRows) (query : Query) (a : LabelFacts)
   pub in_time : triple.arrival.0 ≤ℤ latest query
   pub rides : triple.rides ≡ a.rides
   pub price : triple.price.0 ≡ price_so_far a
+
+-- so a search goes on from the facts of partial journeys
+abbrev pub ways : FeedRows → Query → Ways LabelFacts Ride Move StopId Triple
+ways feed query = record {
+  Starts = λ a. IsTrue (stands_for feed query.from a.stop) × (a ≡ start_facts query a.stop);
+  Steps = IsLabelStep feed query;
+  Ends = IsLabelEnd feed query;
+  Covers = Covers;
+  IsSound = IsStated;
+  at_most = at_most;
+}

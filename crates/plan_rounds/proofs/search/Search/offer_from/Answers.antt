@@ -17,7 +17,9 @@ use Rattle.round_labels.specs.declared.label.Label.{Label}
 use Rattle.plan_rounds.proofs.ScanLaws.{lasts_in, right_at}
 use Rattle.plan_rounds.proofs.SettledLaws.{if_settled, labels_added, passed_by, tried_kept, tried_own, tried_still}
 use Rattle.plan_rounds.proofs.SourceLaws.{source_of}
-use Rattle.plan_rounds.proofs.SpreadLaws.{spreads_at, spreads_same}
+use Rattle.plan_rounds.proofs.SearchLaws.{spreads_at}
+use Rattle.plan_rounds.specs.Stores.{round_search}
+use Rattle.search_laws.proofs.SpreadLaws.{spreads_same}
 use Rattle.plan_rounds.proofs.search.Search.offer_from.Goals as goal
 
 pub keep_legs-requires-clause-serves : goal.keep_legs-requires-clause-serves
@@ -177,7 +179,7 @@ returns-clause-spreads c =
     let same = same_Some c.get-label.result marked.label (sym c.get-label.ensures ∙ marked.is) in
     let counts = ap (λ (x : Label). x.rides) same ∙ marked.counts in
     on_ok_weaker c.add.result
-    (λ adds. spreads_same me.feed me.query (Lacks me round.finals.now) round.labels.now (round.count + 1) _ _ _ _
+    (λ adds. spreads_same (round_search me.feed me.query) (Lacks me round.finals.now) round.labels.now (round.count + 1) _ _ _ _
     (spreads_at me.feed me.query (Lacks me round.finals.now) round.labels.now _ _ _ _ _ counts c.in_ok-offer_rides.ensures.all)
     (λ b step. subst (λ (x : Label). StepsAt me round.positions.now x c.args.reached.now b)
     (same_Some step.0 c.get-label.result (sym step.1 ∙ c.get-label.ensures)) step.2))

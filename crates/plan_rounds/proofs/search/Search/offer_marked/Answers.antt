@@ -10,8 +10,9 @@ use Rattle.plan_rounds.proofs.LegLaws.{kinds_none}
 use Rattle.plan_rounds.proofs.ScanLaws.{steps_all, steps_more, steps_none, until_at}
 use Rattle.plan_rounds.proofs.SettledLaws.{settled_none}
 use Rattle.plan_rounds.proofs.SourceLaws.{from_all}
-use Rattle.plan_rounds.proofs.SpreadLaws.{spreads_but, spreads_more, spreads_none}
 use Rattle.plan_rounds.proofs.UsefulLaws.{until_later}
+use Rattle.plan_rounds.specs.Stores.{round_search}
+use Rattle.search_laws.proofs.SpreadLaws.{spreads_but, spreads_more, spreads_none}
 use Rattle.plan_rounds.proofs.search.Search.offer_marked.Goals as goal
 
 pub loop-k-init : goal.loop-k-init
@@ -19,7 +20,7 @@ loop-k-init c =
     let me = c.args.self.now in
     let round = c.args.round.now in
     record {
-      spreads = spreads_none me.feed me.query (Lacks me round.finals.now) round.labels.now (round.count + 1)
+      spreads = spreads_none (round_search me.feed me.query) (Lacks me round.finals.now) round.labels.now (round.count + 1)
           (StepsAtFirst me round c.args.marks.now.reached.items 0) c.args.bags.now
           (λ b steps. absurd (steps_none me round c.args.marks.now.reached.items b steps));
       fares = c.requires.fares;
@@ -82,7 +83,7 @@ loop-k-preserved c =
     let lt : k < length list.items = omega (arith, c.loop-k-test.true, c.len-k-end.ensures, list.ok.0) in
     let at = slice_get_read list.items (length list.items) k reached refl lt c.index-reached.ensures in
     record {
-      spreads = spreads_more me.feed me.query (Lacks me round.finals.now) round.labels.now (round.count + 1) _ _ _ _ _ _
+      spreads = spreads_more (round_search me.feed me.query) (Lacks me round.finals.now) round.labels.now (round.count + 1) _ _ _ _ _ _
           was.spreads c.in_ok-offer_from.ensures.spreads (λ b. steps_more me round list.items k reached b at);
       fares = c.in_ok-offer_from.ensures.fares;
       kept = c.in_ok-offer_from.ensures.kept;
@@ -96,7 +97,7 @@ returns-clause-spreads c =
     let round = c.args.round.now in
     let list = c.args.marks.now.reached in
     let whole : length list.items ≤ c.loop-k.k = omega (arith, c.loop-k-test.false, c.len-k-end.ensures, list.ok.0) in
-    spreads_but me.feed me.query (Lacks me round.finals.now) round.labels.now (round.count + 1) _ _ _ _ c.loop-k.invariant.spreads
+    spreads_but (round_search me.feed me.query) (Lacks me round.finals.now) round.labels.now (round.count + 1) _ _ _ _ c.loop-k.invariant.spreads
     (λ b from. ⊎_elim (λ among. inl (steps_all me round list.items c.loop-k.k b whole among)) inr
     (c.requires.marks.reached.all b
     (from_all me.feed me.query round.labels.now round.count (length round.labels.now) b (omega arith) from)))

@@ -9,7 +9,10 @@ use Rattle.plan_rounds.proofs.KeptLaws.{keep_after, narrow_caught}
 use Rattle.plan_rounds.specs.Searched.{Lacks, is_overtaken_by}
 use Rattle.plan_rounds.proofs.FutileLaws.{overtaken, not_outdone}
 use Rattle.plan_rounds.proofs.RideSteps.{fresh_after, within_after}
-use Rattle.plan_rounds.proofs.SpreadLaws.{spreads_none, spreads_taken}
+use Rattle.plan_rounds.proofs.SearchLaws.{round_test}
+use Rattle.plan_rounds.specs.Stores.{round_search}
+use Rattle.round_laws.proofs.CoverLaws.{lawful}
+use Rattle.search_laws.proofs.SpreadLaws.{spreads_none, spreads_taken}
 use Rattle.plan_rounds.proofs.search.Search.offer_move.Goals as goal
 
 pub offer-requires : goal.offer-requires
@@ -24,7 +27,7 @@ offer-requires c =
 
 pub returns-then-is_overtaken : goal.returns-then-is_overtaken
 returns-then-is_overtaken c =
-    spreads_none c.args.self.now.feed c.args.self.now.query
+    spreads_none (round_search c.args.self.now.feed c.args.self.now.query)
     (Lacks c.args.self.now c.args.finals.now) c.args.source.now.labels.now _ _
     c.args.bags.now (λ b same.
     overtaken c.args.self.now c.args.finals.now
@@ -52,7 +55,7 @@ is_useless-requires-clause-within c =
 pub returns-then-is_useless : goal.returns-then-is_useless
 returns-then-is_useless c =
     let task = c.args.self.now in
-    spreads_none task.feed task.query (Lacks task c.args.finals.now) c.args.source.now.labels.now _ _
+    spreads_none (round_search task.feed task.query) (Lacks task c.args.finals.now) c.args.source.now.labels.now _ _
     c.args.bags.now (λ b same.
     subst (Lacks task c.args.finals.now) (sym same)
     (subst (λ (x : Label). Lacks task c.args.finals.now (facts_of x)) c.after-label.ensures.value (c.is_useless.ensures c.if-is_useless.true)))
@@ -60,7 +63,7 @@ returns-then-is_useless c =
 pub returns-then-passed : goal.returns-then-passed
 returns-then-passed c =
     let task = c.args.self.now in
-    spreads_none task.feed task.query (Lacks task c.args.finals.now) c.args.source.now.labels.now _ _
+    spreads_none (round_search task.feed task.query) (Lacks task c.args.finals.now) c.args.source.now.labels.now _ _
     c.args.bags.now (λ b same strict. absurd (both_ways task.loose strict (c.in_ok-passed.ensures c.if-passed.true)))
 
 pub returns : goal.returns
@@ -68,7 +71,7 @@ returns c =
     let source = c.args.source.now in
     let caught = c.args.caught.now in
     let taken = c.args.taken.now in
-    spreads_taken c.args.self.now.feed c.args.self.now.query
+    spreads_taken (round_search c.args.self.now.feed c.args.self.now.query) (lawful c.args.self.now.feed c.args.self.now.query) (round_test c.args.self.now.feed c.args.self.now.query)
     (Lacks c.args.self.now c.args.finals.now) source.labels.now _ c.offer.result c.args.bags.now c.offer.new.self c.after-label.result
     (went_on source.label.now source.number caught.ride caught.facts taken) c.offer.ensures c.after-label.ensures.value
     (fresh_after c.args.self.now.feed c.args.self.now.query source c.requires.source caught c.requires.right taken c.feed-feed.ensures.sound

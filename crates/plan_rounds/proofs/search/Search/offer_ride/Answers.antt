@@ -8,11 +8,12 @@ use Rattle.feed_rows.specs.Legs.{leg_facts}
 use Rattle.round_labels.specs.Labels.{IsSmall}
 use Rattle.plan_rounds.specs.Searched.{Lacks}
 use Rattle.plan_rounds.proofs.RideSteps.{leads_more, within_after}
-use Rattle.plan_rounds.proofs.SpreadLaws.{spreads_none, spreads_more}
 use Rattle.plan_rounds.specs.Moves.{HasBetter}
 use Rattle.plan_rounds.proofs.FutileLaws.{leads_without, ride_overtaken, spreads_by}
 use Rattle.plan_rounds.proofs.search.Search.offer_ride.Goals as goal
 use Rattle.plan_rounds.proofs.search.Search.offer_ride.Goals.{then-not-is_bettered+in_ok-offer_move, else-not-is_bettered}
+use Rattle.plan_rounds.specs.Stores.{round_search}
+use Rattle.search_laws.proofs.SpreadLaws.{spreads_more, spreads_none}
 
 pub find_moves-requires-clause-bounded : goal.find_moves-requires-clause-bounded
 find_moves-requires-clause-bounded c = c.requires.source.bounded
@@ -50,7 +51,7 @@ offer_move-requires-clause-pays c =
 
 pub loop-k-init : goal.loop-k-init
 loop-k-init c = record {
-  spreads = spreads_none c.args.self.now.feed c.args.self.now.query (Lacks c.args.self.now c.args.finals.now) c.args.source.now.labels.now _ _
+  spreads = spreads_none (round_search c.args.self.now.feed c.args.self.now.query) (Lacks c.args.self.now c.args.finals.now) c.args.source.now.labels.now _ _
       c.args.bags.now (λ b leads. let below = leads.1 in absurd (omega (arith, below)));
   moves = refl;
 }
@@ -68,7 +69,7 @@ loop-k-preserved c =
           let at = slice_get_read moves.items (length moves.items) c.loop-k.k w.index-taken.result.now refl lt
           (w.index-taken.ensures ∙ ap (λ ms. slice_index_or ms.items c.loop-k.k w.index-taken.result.now) was.moves) in
           record {
-            spreads = rw w.bags-is (spreads_more feed query (Lacks c.args.self.now c.args.finals.now) source.labels.now _ _ _ _ _ _ _ was.spreads w.in_ok-offer_move.ensures
+            spreads = rw w.bags-is (spreads_more (round_search feed query) (Lacks c.args.self.now c.args.finals.now) source.labels.now _ _ _ _ _ _ _ was.spreads w.in_ok-offer_move.ensures
                 (λ b. leads_more feed query source c.requires.source c.args.caught.now c.requires.right moves.items c.loop-k.k w.index-taken.result.now b at));
             moves = rw w.room-is was.moves;
           }
@@ -86,7 +87,7 @@ returns-then-arrives_after c =
     let source = c.args.source.now in
     let caught = c.args.caught.now in
     let sound = c.feed-feed.ensures.sound in
-    spreads_none me.feed me.query (Lacks me c.args.finals.now) source.labels.now _ _
+    spreads_none (round_search me.feed me.query) (Lacks me c.args.finals.now) source.labels.now _ _
     c.args.bags.now (λ b by. ride_overtaken me c.args.finals.now source.label.now caught c.requires.right b by sound
     (c.requires.after caught.facts.arrival.0 (c.arrives_after.ensures c.if-arrives_after.true) (within_after me.feed me.query source c.requires.source caught c.requires.right sound).until))
 

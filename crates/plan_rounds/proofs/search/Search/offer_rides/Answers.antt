@@ -11,9 +11,10 @@ use Rattle.round_table.specs.Finals.{HasEnds}
 use Rattle.plan_rounds.specs.Searched.{Lacks}
 use Rattle.plan_rounds.proofs.RideSteps.{by_first, rides_more}
 use Rattle.plan_rounds.proofs.ScanLaws.{by_left_out, by_passed, right_from, steps_from}
-use Rattle.plan_rounds.proofs.SpreadLaws.{spreads_but, spreads_done, spreads_more, spreads_same}
 use Rattle.plan_rounds.proofs.search.Search.offer_rides.Goals as goal
 use Rattle.plan_rounds.proofs.search.Search.offer_rides.Goals.{then-departs_since+then-is_tried+in_ok-offer_ride, then-departs_since+else-is_tried, else-departs_since}
+use Rattle.plan_rounds.specs.Stores.{round_search}
+use Rattle.search_laws.proofs.SpreadLaws.{spreads_but, spreads_done, spreads_more, spreads_same}
 
 abbrev none : CaughtRide
 none =
@@ -59,10 +60,10 @@ loop-k-preserved c =
     let at = slice_get-get_or rides k none c.loop-k-test.true in
     elim c.if-departs_since.branch [
       | then-departs_since+then-is_tried+in_ok-offer_ride w ↦
-          rw w.bags-is (spreads_more me.feed me.query lack source.labels.now _ _ _ _ _ _ _ was w.in_ok-offer_ride.ensures
+          rw w.bags-is (spreads_more (round_search me.feed me.query) lack source.labels.now _ _ _ _ _ _ _ was w.in_ok-offer_ride.ensures
           (λ b. rides_more me.feed me.query source rides k (slice_index_or rides k none) b at))
       | then-departs_since+else-is_tried w ↦
-          rw w.bags-is (spreads_done me.feed me.query lack source.labels.now _ _ _ _ _ was
+          rw w.bags-is (spreads_done (round_search me.feed me.query) lack source.labels.now _ _ _ _ _ was
           (λ b. by_left_out me c.args.round.now source c.args.reached.now serve.latest rides c.requires.round c.requires.source
           c.requires.from serve.holds (cutoff_of c.args.legs.latest) (cutoff_of c.args.legs.late) c.args.legs.since.0
           c.args.legs.passed.0 c.args.bags.now k
@@ -70,7 +71,7 @@ loop-k-preserved c =
           (sym c.departs_since.ensures ∙ w.if-departs_since.true) c.requires.counts c.requires.own c.requires.late c.requires.passed
           (w.is_tried.ensures w.if-is_tried.false)))
       | else-departs_since w ↦
-          rw w.bags-is (spreads_same me.feed me.query lack source.labels.now _ _ _ _ _ was
+          rw w.bags-is (spreads_same (round_search me.feed me.query) lack source.labels.now _ _ _ _ _ was
           (λ b. by_passed me c.args.round.now source c.args.reached.now serve.latest rides c.requires.round c.requires.source
           c.requires.from serve.holds k (slice_index_or rides k none) b at (sym c.departs_since.ensures ∙ w.if-departs_since.false)))
     ]
@@ -80,7 +81,7 @@ returns-clause-each c =
     let me = c.args.self.now in
     let source = c.args.source.now in
     let rides = c.args.legs.rides.now in
-    spreads_same me.feed me.query (Lacks me c.args.round.now.finals.now) source.labels.now _ _ _ _ _ c.loop-k.invariant
+    spreads_same (round_search me.feed me.query) (Lacks me c.args.round.now.finals.now) source.labels.now _ _ _ _ _ c.loop-k.invariant
     (λ b by. by_first me.feed me.query source rides (length rides) c.loop-k.k b c.loop-k-test.false by)
 
 pub returns-clause-all : goal.returns-clause-all
@@ -89,7 +90,7 @@ returns-clause-all c =
     let source = c.args.source.now in
     let rides = c.args.legs.rides.now in
     let serve = c.requires.serve in
-    spreads_but me.feed me.query (Lacks me c.args.round.now.finals.now) source.labels.now _ _ _ _ _ c.loop-k.invariant
+    spreads_but (round_search me.feed me.query) (Lacks me c.args.round.now.finals.now) source.labels.now _ _ _ _ _ c.loop-k.invariant
     (λ b step. ⊎_elim (λ by. inl (by_first me.feed me.query source rides (length rides) c.loop-k.k b c.loop-k-test.false by)) inr
     (steps_from me c.args.round.now source c.args.reached.now serve.latest rides c.requires.round c.requires.source c.requires.from serve.holds b
     c.requires.counts serve.fair step))

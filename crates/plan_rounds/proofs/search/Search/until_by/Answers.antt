@@ -5,9 +5,10 @@ use Rattle.transit_base.specs.declared.moments.Moment.{Moment}
 use Rattle.plan_rides.specs.InTime.{deadline}
 use Rattle.plan_rounds.specs.Bounds.{CostsOn, since_of}
 use Rattle.round_labels.specs.Labels.{facts_of}
-use Rattle.round_laws.specs.Futility.{LeadsBy}
 use Rattle.plan_rounds.proofs.PriceLaws.{costs_on, far_none}
 use Rattle.plan_rounds.proofs.UsefulLaws.{by_found, by_none, leads_more}
+use Rattle.round_laws.specs.LabelSteps.{ways}
+use Rattle.search_laws.specs.Ways.{LeadsBy}
 use Rattle.plan_rounds.proofs.search.Search.until_by.Goals as goal
 
 pub returns-then-is_far : goal.returns-then-is_far
@@ -35,7 +36,7 @@ returns-then-is_off c =
     by_none task c.args.finals.now (since_of c.args.since) n a c.departure-then-is_off.result.0
     (subst (λ (m : Moment). m.0 ≤ℤ deadline task.query) (sym c.departure-then-is_off.ensures.is) (omega (arith, ints)))
     (λ triple leads. c.is_off.ensures c.if-is_off.true triple
-    (subst (λ m. LeadsBy task.feed task.query m a triple) (sym (add-one n))
+    (subst (λ m. LeadsBy (ways task.feed task.query) m a triple) (sym (add-one n))
     (leads_more task.feed task.query (since_of c.args.since) n a triple leads)))
 
 pub returns : goal.returns

@@ -4,10 +4,12 @@ use Rattle.std.specs.Prelude.{OnOk}
 use Rattle.std.proofs.lemmas.Option.{same_Some}
 use Rattle.indexmap.specs.Layout.{set_value_at}
 use Rattle.label_bag.specs.Bags.{IsUncovered}
+use Rattle.search_laws.specs.Stores.{Takes}
 use Rattle.round_labels.specs.declared.kept_label.KeptLabel.{KeptLabel}
 use Rattle.round_labels.specs.declared.label.Label.{Label}
 use Rattle.round_labels.specs.Kept.{is_as_good, whole, whole_by, wholes}
-use Rattle.round_labels.specs.Bags.{AreBagsOf, IsBagOf, IsKeptOf, Takes, in_bags}
+use Rattle.round_labels.specs.Labels.{covers}
+use Rattle.round_labels.specs.Bags.{AreBagsOf, IsBagOf, IsKeptOf, in_bags}
 use Rattle.round_labels.proofs.BagLaws.{bags_found, bags_push, bags_still, covered_found, found_bag, in_push, in_still, inserted, kept_of, none_found, one_bag, takes_found, takes_push}
 use Rattle.round_labels.proofs.KeptBagLaws.{uncovered_numbered, whole_numbered}
 use Rattle.round_labels.proofs.stop_bags.StopBags.take.Goals as goal
@@ -26,7 +28,7 @@ returns-then-covers c =
     let bags = c.self.inside.bags.entries in
     let is = found_bag bags c.args.class c.in-Some.number c.index.result.now
     (sym c.get_index_of.ensures.index ∙ c.in-Some.is) c.index.ensures in
-    subst (λ ls. Takes ls (whole_by c.args.taken.now c.args.label.now) ls) c.self.view_is
+    subst (λ ls. Takes covers ls (whole_by c.args.taken.now c.args.label.now) ls) c.self.view_is
     (covered_found c.self.inside.moves bags c.in-Some.number (c.args.class, c.index.result.now) c.args.label.now
     c.args.taken.now is c.self.invariant c.requires (sym c.covers.ensures ∙ c.if-covers.true))
 
@@ -75,9 +77,9 @@ returns-in_ok-place-in-Some c =
     let of_label = kept_of moves c.args.class c.args.label.now c.args.taken.now place at c.requires in
     let after = in_bags moves (set_value_at bags c.in-Some.number c.add.new.self) in
     let whole_is = ap (whole moves) c.numbered.ensures ∙ whole_numbered moves c.args.label.now c.args.taken.now place at in
-    subst (λ ls. OnOk c.add.result (Takes ls label after))
+    subst (λ ls. OnOk c.add.result (Takes covers ls label after))
     (in_still c.self.inside.moves moves c.number.ensures.still bags c.self.invariant ∙ c.self.view_is)
-    (subst (λ (x : Label). OnOk c.add.result (Takes (in_bags moves bags) x after)) whole_is
+    (subst (λ (x : Label). OnOk c.add.result (Takes covers (in_bags moves bags) x after)) whole_is
     (takes_found c.add.result moves bags c.in-Some.number (c.args.class, c.index_mut.result.now) c.numbered.result
     c.add.new.self is (bags_still c.self.inside.moves moves c.number.ensures.still bags c.self.invariant)
     (subst (IsKeptOf moves c.args.class) (sym c.numbered.ensures) of_label) c.add.ensures.gathers c.add.ensures.err
@@ -134,7 +136,7 @@ returns-in_ok-insert-in-None c =
     let whole_is =
     ap (whole moves) c.numbered-in-None.ensures
     ∙ whole_numbered moves c.args.label.now c.args.taken.now c.in_ok-place-in-None.place c.in_ok-place-in-None.ensures.is in
-    subst (λ ls. Takes ls label after)
+    subst (λ ls. Takes covers ls label after)
     (in_still c.self.inside.moves moves c.number-in-None.ensures.still bags c.self.invariant ∙ c.self.view_is)
-    (subst (λ (x : Label). Takes (in_bags moves bags) x after) whole_is
-    (subst (Takes (in_bags moves bags) (whole moves kept)) (sym is) (takes_push (in_bags moves bags) (whole moves kept))))
+    (subst (λ (x : Label). Takes covers (in_bags moves bags) x after) whole_is
+    (subst (Takes covers (in_bags moves bags) (whole moves kept)) (sym is) (takes_push (in_bags moves bags) (whole moves kept))))
