@@ -7,7 +7,9 @@ use feed_timetable::Timetable;
 use pareto_front::are_same_triples;
 use plan_plain::plain_entries;
 use plan_rounds::{round_entries, rounds};
+use round_table::RoundTable;
 use std::alloc::{AllocError, Global};
+use transit_base::StopId;
 
 // The triples of the entries.
 fn triples(alloc: Global, entries: &[Entry]) -> Result<Vec<Triple>, AllocError> {
@@ -18,7 +20,24 @@ fn triples(alloc: Global, entries: &[Entry]) -> Result<Vec<Triple>, AllocError> 
     Ok(triples)
 }
 
-// The triples in which the table of all labels ends.
+// How many labels the bags of all stops and rounds have.
+fn count_in_bags(
+    alloc: Global,
+    table: &RoundTable,
+    stops: usize,
+    limit: u8,
+) -> Result<usize, AllocError> {
+    let mut count: usize = 0;
+    for stop in 0..stops {
+        for rides in 0..=limit {
+            let bag = table.bag(alloc, rides, StopId(stop as u32))?;
+            count = count.saturating_add(bag.len());
+        }
+    }
+    Ok(count)
+}
+
+// The triples in which the table of all labels ends; none where its bags don't have each label once.
 fn triples_of_table(
     alloc: Global,
     timetable: &Timetable,
@@ -28,6 +47,10 @@ fn triples_of_table(
 {
     let table = rounds(alloc, timetable, query)?;
     let mut triples = Vec::new(alloc);
+    let stops = timetable.feed().stops.items().len();
+    if count_in_bags(alloc, &table, stops, query.rides)? != table.size() {
+        return Ok(triples);
+    }
     for end in table.finals() {
         triples.push(end.triple)?;
     }
