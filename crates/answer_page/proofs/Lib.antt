@@ -1,0 +1,5 @@
+mod FillLaws
+mod MarkupLaws
+mod NameLaws
+mod ReadLaws
+mod ToldLaws

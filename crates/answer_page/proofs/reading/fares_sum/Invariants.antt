@@ -1,0 +1,6 @@
+use Rattle.std.proofs.Common.{◌≡◌, take}
+use Rattle.answer_page.specs.Readings.{fares_sum}
+use Rattle.answer_page.proofs.reading.fares_sum.Given as goal
+
+abbrev pub invariant-loop-fare : goal.invariant-loop-fare
+invariant-loop-fare l = l.sum ≡ fares_sum (take l.fare-index l.fares)

@@ -1,0 +1,9 @@
+use Rattle.std.proofs.Common.{◌≡◌, ◌++◌, drop}
+use Rattle.answer_page.specs.Threads.{threaded}
+use Rattle.answer_page.specs.Ways.{bar_html, end_of}
+use Rattle.answer_page.proofs.ways.write_parts.Given as goal
+
+abbrev pub invariant-loop-step : goal.invariant-loop-step
+invariant-loop-step l =
+    l.page ++ threaded (bar_html l.names l.times) end_of l.at (drop l.step-index l.steps)
+    ≡ l.fn.page ++ threaded (bar_html l.names l.times) end_of l.leave l.steps

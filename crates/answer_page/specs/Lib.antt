@@ -1,0 +1,15 @@
+pub mod AnswerLines
+pub mod Charts
+pub mod Cuts
+pub mod Explained
+pub mod Html
+pub mod Journeys
+pub mod LineNames
+pub mod Names
+pub mod Pages
+pub mod Readings
+pub mod Scales
+pub mod Stamps
+pub mod Threads
+pub mod Tickets
+pub mod Ways
