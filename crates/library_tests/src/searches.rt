@@ -20,19 +20,28 @@ fn triples(alloc: Global, entries: &[Entry]) -> Result<Vec<Triple>, AllocError> 
     Ok(triples)
 }
 
-// How many labels the bags of all stops and rounds have.
-fn count_in_bags(
+// How many stops a drawn feed has.
+const DRAWN_STOPS: u32 = 8;
+
+// How many labels the bags of all rounds have at the stop.
+fn count_at(
     alloc: Global,
     table: &RoundTable,
-    stops: usize,
+    stop: StopId,
     limit: u8,
 ) -> Result<usize, AllocError> {
     let mut count: usize = 0;
-    for stop in 0..stops {
-        for rides in 0..=limit {
-            let bag = table.bag(alloc, rides, StopId(stop as u32))?;
-            count = count.saturating_add(bag.len());
-        }
+    for rides in 0..limit {
+        count = count.saturating_add(table.bag(alloc, rides, stop)?.len());
+    }
+    Ok(count.saturating_add(table.bag(alloc, limit, stop)?.len()))
+}
+
+// How many labels the bags of all stops have.
+fn count_in_bags(alloc: Global, table: &RoundTable, limit: u8) -> Result<usize, AllocError> {
+    let mut count: usize = 0;
+    for stop in 0..DRAWN_STOPS {
+        count = count.saturating_add(count_at(alloc, table, StopId(stop), limit)?);
     }
     Ok(count)
 }
@@ -47,8 +56,7 @@ fn triples_of_table(
 {
     let table = rounds(alloc, timetable, query)?;
     let mut triples = Vec::new(alloc);
-    let stops = timetable.feed().stops.items().len();
-    if count_in_bags(alloc, &table, stops, query.rides)? != table.size() {
+    if count_in_bags(alloc, &table, query.rides)? != table.size() {
         return Ok(triples);
     }
     for end in table.finals() {
