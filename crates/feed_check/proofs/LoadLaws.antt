@@ -1,11 +1,10 @@
 -- Files of a folder that are read one after another: what is answered at each step.
-use Rattle.std.proofs.Common.{◌≡◌, refl, ◌∙◌, ℕ, ◌<◌, ◌≤◌, ◌⊎◌, inl, inr, Bool, true, false, nat_lt, List, replicate, None, sym, arith}
+use Rattle.std.proofs.Common.{◌≡◌, refl, ◌∙◌, ℕ, ◌<◌, ◌≤◌, List, replicate, None, sym, arith}
 use Rattle.std.specs.Prelude.{map, Result, Ok, Err}
 use Rattle.std.proofs.lemmas.List.{get_or-replicate}
-use Rattle.std.proofs.lemmas.Bool.Decides.{nat_tests}
 use Rattle.std.proofs.lemmas.Option.{unwrap_or-slice_get}
 use Rattle.plain_laws.specs.Plain.{first_in}
-use Rattle.feed_files.specs.HeldFiles.{HeldFile, held, most_bytes}
+use Rattle.feed_files.specs.HeldFiles.{HeldFile, held}
 use Rattle.feed_files.specs.Names.{place}
 use Rattle.feed_files.specs.declared.names.FileName.{FileName}
 use Rattle.feed_files.specs.declared.names.FileName.TheVariants as file
@@ -15,7 +14,7 @@ use Rattle.folder_io.specs.declared.files.FileBytes.TheVariants as kept
 use Rattle.folder_io.specs.declared.reading.ReadError.{ReadError}
 use Rattle.folder_io.specs.declared.reading.ReadError.TheVariants as read
 use Rattle.folder_io.specs.FolderCalls.{FolderState, WhereTold}
-use Rattle.folder_io.specs.KeptFiles.{IsWithin, AreWithin, file_in, held_in}
+use Rattle.folder_io.specs.KeptFiles.{AreWithin, file_in, held_in}
 use Rattle.folder_io.specs.FileReading.{AreReadBetween, Gives, GivesUpOn, OpensAll, ReadsTo}
 use Rattle.folder_io.proofs.LogLaws.{makes_none}
 use Rattle.folder_io.proofs.PlaceLaws.{inside}
@@ -53,15 +52,6 @@ pub none_within : AreWithin (replicate 18 kept.Absent)
 none_within name =
     let is : file_in (replicate 18 kept.Absent) name ≡ kept.Absent = unwrap_or-slice_get (replicate 18 kept.Absent) (place name) kept.Absent ∙ get_or-replicate 18 (place name) kept.Absent kept.Absent (inside name) in
     rw is tt
-
--- each file is within the limit where those that were read are, and the others were
-pub within_read : (folder : FolderState) (from to : ℕ) (before now : List FileBytes) → AreReadBetween folder from to before now → ((name : FileName) → (place name < from) ⊎ (to ≤ place name) → IsWithin most_bytes (file_in before name)) → AreWithin now
-within_read folder from to before now read others name = by (nat_lt (place name) from) refl (nat_lt (place name) to) refl
-  where
-    by : (low : Bool) → nat_lt (place name) from ≡ low → (high : Bool) → nat_lt (place name) to ≡ high → IsWithin most_bytes (file_in now name)
-    by true is high above = let lt : place name < from = grind (arith, nat_tests, is) in rw (read.others name (inl lt)) (others name (inl lt))
-    by false is true below = read.within name (grind (arith, nat_tests, is)) (grind (arith, nat_tests, below))
-    by false is false above = let le : to ≤ place name = grind (arith, nat_tests, above) in rw (read.others name (inr le)) (others name (inr le))
 
 -- the first fault of files that a folder holds
 fault_gives : (folder now : FolderState) (files : FileName → HeldFile) → Gives folder files → ReadsTo folder 18 now → (why : TextError) → IsErrorOf (first_fault files) why → GivesUpLoading (refused why) folder now

@@ -1,23 +1,19 @@
 -- The calls of a trip: where the first and the last row have times each row has its call, and one pass over the rows
 -- gives them.
-use Rattle.std.proofs.Common.{◌≡◌, refl, sym, ◌∙◌, ap, subst, ℕ, zero, suc, ◌+◌, ◌<◌, ◌≤◌, ◌⊎◌, inl, inr, Bool, true, false, List, [], ◌∷◌, ◌++◌, length, get_or, arith}
+use Rattle.std.proofs.Common.{◌≡◌, refl, sym, ◌∙◌, ap, subst, ℕ, zero, suc, ◌+◌, ◌<◌, ◌≤◌, ◌⊎◌, inl, inr, Bool, true, false, List, [], length, get_or, arith}
 use Rattle.std.specs.Prelude.{Some, None, slice_get, unwrap_or}
 use Rattle.std.proofs.lemmas.Bool.{cases_Bool}
-use Rattle.std.proofs.lemmas.Option.{same_Some, none-some, slice_get_within, slice_get_cases, slice_get-get_or}
+use Rattle.std.proofs.lemmas.Option.{same_Some, none-some, slice_get_within, slice_get_cases}
 use Rattle.transit_base.specs.declared.numbers.TripId.{TripId}
 use Rattle.feed_rows.specs.declared.rows.StopTimeRow.{StopTimeRow}
 use Rattle.feed_rows.specs.declared.journeys.Call.{Call}
 use Rattle.feed_rows.specs.FeedRows.{FeedRows}
 use Rattle.plain_laws.specs.Plain.{collect_below}
 use Rattle.feed_rows.specs.Calls.{first_time, last_time, is_timed, timed_before, time_between, filled_time, call_at, calls_of, trip_stop_times}
-use Rattle.feed_rows.specs.CallPass.{TimedGap, gap_after, gap_at, time_in, time_or_zero, next_timed, call_in, pass_below, pass}
+use Rattle.feed_rows.specs.CallPass.{TimedGap, gap_after, gap_at, time_in, call_in, pass_below, pass}
 use Rattle.plain_laws.proofs.Laws.{collect_below_tells, IsCollected}
 use Rattle.feed_rows.specs.TimedTrips.{first_at, last_at, is_timed_at, HasTimedEnds}
 use Rattle.feed_laws.proofs.TimedLaws.{IsInGap, in_gap, timed_before_hit, timed_after_hit, timed_after_gap, timed_at, timed_row, untimed_row}
-
--- the gap goes on: a new one begins after a timed row
-pub gap_at_timed : (rows : List StopTimeRow) (m : ℕ) → is_timed_at rows m ≡ true → gap_at rows (m + 1) ≡ gap_after rows m
-gap_at_timed rows m timed = let e : m + 1 ≡ suc m = omega arith in rw (e, timed) refl
 
 pub gap_at_untimed : (rows : List StopTimeRow) (m : ℕ) → is_timed_at rows m ≡ false → gap_at rows (m + 1) ≡ gap_at rows m
 gap_at_untimed rows m untimed = let e : m + 1 ≡ suc m = omega arith in rw (e, untimed) refl
@@ -38,25 +34,6 @@ gap_at_in rows m p q left reached gap leaves reaches =
     let before = timed_before_hit rows m p gap.before in
     let after = timed_after_hit rows p q (timed_after_gap rows m p q gap.before gap.untimed gap.after) in
     rw (gap_at_before rows m p before, after, leaves, reaches) refl
-
--- the position lies in the gap, whose times are those of its rows
-pub record IsAround (rows : List StopTimeRow) (m : ℕ) (gap : TimedGap) : Type 0 where
-  pub around : IsInGap rows m gap.from gap.to
-  pub left_is : last_at rows gap.from ≡ Some gap.left
-  pub reached_is : first_at rows gap.to ≡ Some gap.reached
-
--- a row without times lies in the gap that is carried to it
-pub gap_at_around : (rows : List StopTimeRow) (m : ℕ) → HasTimedEnds rows → m < length rows → is_timed_at rows m ≡ false → IsAround rows m (gap_at rows m)
-gap_at_around rows m ends lt untimed =
-    let found = in_gap rows m ends lt untimed in
-    let gap = found.2 in
-    let before = timed_at rows found.0 gap.before.timed in
-    let after = timed_at rows found.1 gap.after.timed in
-    rw (gap_at_in rows m found.0 found.1 before.1 after.0 gap before.3 after.2) (record { around = gap; left_is = before.3; reached_is = after.2 })
-
--- the same of a gap that is known to be the carried one
-pub gap_around : (rows : List StopTimeRow) (m : ℕ) (gap : TimedGap) → HasTimedEnds rows → m < length rows → is_timed_at rows m ≡ false → gap ≡ gap_at rows m → IsAround rows m gap
-gap_around rows m gap ends lt untimed is = rw is (gap_at_around rows m ends lt untimed)
 
 -- the call of a timed row, and of one without times
 pub call_in_timed : (gap : TimedGap) (m : ℕ) (row : StopTimeRow) → is_timed row ≡ true
@@ -153,14 +130,6 @@ passed rows m row ends at = step (cases_Bool (is_timed row))
           });
         }
 
--- each row has its call
-pub call_at_some : (rows : List StopTimeRow) (m : ℕ) → HasTimedEnds rows → m < length rows → (call : Call) × (call_at rows m ≡ Some call)
-call_at_some rows m ends lt = step (slice_get_cases rows m).1
-  where
-    step : ((row : StopTimeRow) × (m < length rows) × (slice_get rows m ≡ Some row) × (get_or rows m row ≡ row)) ⊎ ((length rows ≤ m) × (slice_get rows m ≡ None)) → (call : Call) × (call_at rows m ≡ Some call)
-    step (inl found) = (call_in (gap_at rows m) m found.0, (passed rows m found.0 ends found.2).made)
-    step (inr past) = let out = past.0 in absurd (omega arith)
-
 -- the row of a call
 pub call_at_row : (rows : List StopTimeRow) (m : ℕ) (call : Call) → HasTimedEnds rows → call_at rows m ≡ Some call → (row : StopTimeRow) × (slice_get rows m ≡ Some row) × IsCallOf rows m row call
 call_at_row rows m call ends e = step (slice_get_cases rows m).1
@@ -170,38 +139,6 @@ call_at_row rows m call ends e = step (slice_get_cases rows m).1
         let made = passed rows m found.0 ends found.2 in
         (found.0, found.2, subst (IsCallOf rows m found.0) (same_Some _ _ (sym made.made ∙ e)) made.call_of)
     step (inr past) = absurd (none-some call (sym (call_at_none rows m past.1) ∙ e))
-
--- the pass goes on by a call
-pub pass_below_more : (rows : List StopTimeRow) (m : ℕ) (row : StopTimeRow) → slice_get rows m ≡ Some row → pass_below rows (m + 1) ≡ pass_below rows m ++ call_in (gap_at rows m) m row ∷ []
-pass_below_more rows m row at = let e : m + 1 ≡ suc m = omega arith in rw (e, at) refl
-
--- a turn of the pass at a timed row: its own times, and a new gap
-pub record IsTimedTurn (rows : List StopTimeRow) (m : ℕ) (row : StopTimeRow) : Type 0 where
-  pub calls : pass_below rows (m + 1) ≡ pass_below rows m ++ (record { stop = row.stop; sequence = row.sequence; arrival = unwrap_or (first_time row) 0; departure = unwrap_or (last_time row) 0; pickup = row.pickup; drop_off = row.drop_off }) ∷ []
-  pub gap : gap_at rows (m + 1) ≡ record { from = m; left = unwrap_or (last_time row) 0; to = next_timed rows m; reached = time_or_zero first_time rows (next_timed rows m) }
-
-pub timed_turn : (rows : List StopTimeRow) (m : ℕ) (d : StopTimeRow) → m < length rows → is_timed (get_or rows m d) ≡ true → IsTimedTurn rows m (get_or rows m d)
-timed_turn rows m d lt timed =
-    let row = get_or rows m d in
-    let at : slice_get rows m ≡ Some row = slice_get-get_or rows m d lt in
-    record {
-      calls = rw (pass_below_more rows m row at, call_in_timed (gap_at rows m) m row timed) refl;
-      gap = gap_at_timed rows m (rw at timed) ∙ rw at refl;
-    }
-
--- a turn at a row without times: the time in the gap, and the same gap
-pub record IsUntimedTurn (rows : List StopTimeRow) (m : ℕ) (row : StopTimeRow) : Type 0 where
-  pub calls : pass_below rows (m + 1) ≡ pass_below rows m ++ (record { stop = row.stop; sequence = row.sequence; arrival = time_in (gap_at rows m) m; departure = time_in (gap_at rows m) m; pickup = row.pickup; drop_off = row.drop_off }) ∷ []
-  pub gap : gap_at rows (m + 1) ≡ gap_at rows m
-
-pub untimed_turn : (rows : List StopTimeRow) (m : ℕ) (d : StopTimeRow) → m < length rows → is_timed (get_or rows m d) ≡ false → IsUntimedTurn rows m (get_or rows m d)
-untimed_turn rows m d lt untimed =
-    let row = get_or rows m d in
-    let at : slice_get rows m ≡ Some row = slice_get-get_or rows m d lt in
-    record {
-      calls = rw (pass_below_more rows m row at, call_in_untimed (gap_at rows m) m row untimed) refl;
-      gap = gap_at_untimed rows m (rw at untimed);
-    }
 
 -- it gives the calls of the rows
 pub pass_below_calls : (rows : List StopTimeRow) (m : ℕ) → HasTimedEnds rows → m ≤ length rows → collect_below m (call_at rows) ≡ Some (pass_below rows m)

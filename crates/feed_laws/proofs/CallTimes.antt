@@ -1,5 +1,5 @@
 -- The times of calls: none is greater than all times of the rows, and where the rows' times don't fall theirs don't.
-use Rattle.std.proofs.Common.{◌≡◌, refl, sym, ◌∙◌, ap, subst, ℕ, zero, suc, ◌-◌, ◌*◌, ◌/◌, ◌<◌, ◌≤◌, ◌⊎◌, inl, inr, true, false, List, length, All, arith, mul-le-mul_right, div-mul-le_self}
+use Rattle.std.proofs.Common.{◌≡◌, refl, sym, ◌∙◌, ap, subst, ℕ, ◌-◌, ◌*◌, ◌/◌, ◌<◌, ◌≤◌, ◌⊎◌, inl, inr, true, false, List, All, arith, mul-le-mul_right, div-mul-le_self}
 use Rattle.std.specs.Prelude.{Option, Some, None, slice_get, IfSome}
 use Rattle.std.proofs.Math.Nat.{div-le_of_le-mul}
 use Rattle.std.proofs.lemmas.Nat.{le-div}
@@ -9,13 +9,11 @@ use Rattle.transit_base.specs.declared.numbers.TripId.{TripId}
 use Rattle.feed_rows.specs.declared.rows.StopTimeRow.{StopTimeRow}
 use Rattle.feed_rows.specs.declared.journeys.Call.{Call}
 use Rattle.feed_rows.specs.FeedRows.{FeedRows}
-use Rattle.feed_rows.specs.CallPass.{TimedGap, time_in}
-use Rattle.feed_rows.specs.Calls.{last_time, first_time, is_timed, time_between, timed_before, calls_of, trip_stop_times, first_departure}
+use Rattle.feed_rows.specs.Calls.{last_time, first_time, is_timed, time_between, calls_of, trip_stop_times, first_departure}
 use Rattle.feed_rows.specs.TimedTrips.{first_at, last_at, is_timed_at, HasTimedEnds, DoTimesRise, AreTimesAtMost, DoTimesEndBy}
 use Rattle.feed_laws.proofs.SequenceLaws.{trip_stop_times_all}
-use Rattle.feed_laws.proofs.TimedLaws.{timed_within, IsTimedBefore, IsTimedAfter, timed_before_hit, timed_before_tells, timed_after_hit, timed_at, last_timed, timed_where}
-use Rattle.plain_laws.proofs.Laws.{last_below_some}
-use Rattle.feed_laws.proofs.CallLaws.{HasOwnTimes, HasFilledTime, IsAround, calls_of_row}
+use Rattle.feed_laws.proofs.TimedLaws.{IsTimedBefore, IsTimedAfter, timed_before_hit, timed_after_hit, timed_at, last_timed, timed_where}
+use Rattle.feed_laws.proofs.CallLaws.{HasOwnTimes, HasFilledTime, calls_of_row}
 
 -- no time of a row is greater than this
 abbrev IsRowWithin : ℕ → StopTimeRow → Type 0
@@ -75,75 +73,12 @@ time_between_most p m q left reached most le a b = let share = share_le (m - p) 
 pub time_between_rises : (p m n q left reached : ℕ) → p < q → m ≤ n → time_between p m q left reached ≤ time_between p n q left reached
 time_between_rises p m n q left reached lt le = let share = share_rises (m - p) (n - p) (q - p) (reached - left) (omega arith) (omega arith) in omega (arith, share)
 
--- a gap in numbers: it is around the position, ends at a row, and its times are at most the greatest
-pub record IsGapWithin (rows : List StopTimeRow) (m most : ℕ) (gap : TimedGap) : Type 0 where
-  pub low : gap.from < m
-  pub high : m < gap.to
-  pub within : gap.to < length rows
-  pub left : gap.left ≤ most
-  pub reached : gap.reached ≤ most
-  pub time : time_in gap m ≤ most
-
-pub around_within : (rows : List StopTimeRow) (m most : ℕ) (gap : TimedGap) → AreTimesAtMost rows most → IsAround rows m gap → IsGapWithin rows m most gap
-around_within rows m most gap bound around =
-    let near = around.around in
-    let high = near.after.after in
-    let left = bound.last gap.from gap.left around.left_is in
-    let reached = bound.first gap.to gap.reached around.reached_is in
-    record {
-      low = near.before.before;
-      high = high;
-      within = timed_within rows gap.to near.after.timed;
-      left = left;
-      reached = reached;
-      time = time_between_most gap.from m gap.to gap.left gap.reached most (omega arith) left reached;
-    }
-
--- where times don't fall a gap is left no later than its end is reached
-pub around_rises : (rows : List StopTimeRow) (m : ℕ) (gap : TimedGap) → DoTimesRise rows → IsAround rows m gap → gap.left ≤ gap.reached
-around_rises rows m gap rise around =
-    let near = around.around in
-    let low = near.before.before in
-    let high = near.after.after in
-    rise.run gap.from gap.to gap.left gap.reached (omega arith) around.left_is around.reached_is
-
 -- a position with a time is timed
 pub last_at_timed : (rows : List StopTimeRow) (m t : ℕ) → last_at rows m ≡ Some t → is_timed_at rows m ≡ true
 last_at_timed = timed_where last_time last_timed
 
 pub first_at_timed : (rows : List StopTimeRow) (m t : ℕ) → first_at rows m ≡ Some t → is_timed_at rows m ≡ true
 first_at_timed = timed_where first_time (λ row timed. timed)
-
--- times don't fall where none is less than that of the nearest timed row before
-pub record DoTimesRiseByNearest (rows : List StopTimeRow) : Type 0 where
-  pub stay : (m a d : ℕ) → first_at rows m ≡ Some a → last_at rows m ≡ Some d → a ≤ d
-  pub run : (p m d a : ℕ) → timed_before rows m ≡ Some p → last_at rows p ≡ Some d → first_at rows m ≡ Some a → d ≤ a
-
-pub rise_from_nearest : (rows : List StopTimeRow) → DoTimesRiseByNearest rows → DoTimesRise rows
-rise_from_nearest rows near = record { stay = near.stay; run = λ i j d a lt left reached. upto (suc j) i j d a (omega arith) lt left reached }
-  where
-    upto : (n i j d a : ℕ) → j < n → i < j → last_at rows i ≡ Some d → first_at rows j ≡ Some a → d ≤ a
-    upto zero i j d a below lt left reached = absurd (omega arith)
-    upto (suc n) i j d a below lt left reached =
-        let timed = last_at_timed rows i d left in
-        let found = last_below_some (λ k. is_timed_at rows k) j i lt timed in
-        let before = timed_before_tells rows j found.0 found.1 in
-        let times = timed_at rows found.0 before.timed in
-        let last = near.run found.0 j times.1 a found.1 times.3 reached in
-        step (upto n) found.0 before times last (cases_lt i found.0) (cases_lt found.0 i)
-      where
-        step : ((i j d a : ℕ) → j < n → i < j → last_at rows i ≡ Some d → first_at rows j ≡ Some a → d ≤ a) → (p : ℕ) → IsTimedBefore rows j p
-            → (times : (first : ℕ) × (last : ℕ) × (first_at rows p ≡ Some first) × (last_at rows p ≡ Some last)) → times.1 ≤ a → (i < p) ⊎ (p ≤ i) → (p < i) ⊎ (i ≤ p) → d ≤ a
-        step earlier p before times last (inl past) _ =
-            let within = before.before in
-            let run = earlier i p d times.0 (omega arith) past left times.2 in
-            let stays = near.stay p times.0 times.1 times.2 times.3 in
-            omega (arith, run, stays, last)
-        step earlier p before times last (inr _) (inl over) = absurd (let wrong : true ≡ false = sym (last_at_timed rows i d left) ∙ before.between i over lt in cc)
-        step earlier p before times last (inr le) (inr ge) =
-            let here : i ≡ p = omega arith in
-            let same : d ≡ times.1 = same_Some d times.1 (sym left ∙ ap (λ k. last_at rows k) here ∙ times.3) in
-            omega (arith, same, last)
 
 -- from row to row, times don't fall
 module _ (rows : List StopTimeRow) (rise : DoTimesRise rows) where

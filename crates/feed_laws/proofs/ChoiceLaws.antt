@@ -1,6 +1,6 @@
 -- What one more ride does to the legs of a journey, and one more leg to a choice that pays them.
 use Rattle.std.proofs.Common.{◌≡◌, refl, sym, ◌∙◌, ap, ℕ, suc, ◌+◌, ◌-◌, ◌<◌, Bool, true, false, ◌&&◌, List, [], ◌∷◌, ◌++◌, length, arith, add-one}
-use Rattle.std.specs.Prelude.{if◌then◌else◌, Option, Some, slice_get, option_map, option_and_then}
+use Rattle.std.specs.Prelude.{Option, Some, slice_get, option_map, option_and_then}
 use Rattle.std.proofs.lemmas.Bool.{eq-eqb}
 use Rattle.std.proofs.lemmas.List.{length_push}
 use Rattle.feed_rows.specs.declared.journeys.Buyer.{Buyer}
@@ -14,13 +14,12 @@ use Rattle.plain_laws.specs.Plain.{all_below}
 use Rattle.feed_rows.specs.Rides.{ride_facts}
 use Rattle.feed_rows.specs.Journeys.{facts_at}
 use Rattle.feed_rows.specs.Legs.{leg_facts, legs_of}
-use Rattle.feed_rows.specs.TransferRules.{FareLeg, change_at, goes_on, run_start}
+use Rattle.feed_rows.specs.TransferRules.{FareLeg, change_at}
 use Rattle.feed_rows.specs.FareChoices.{chosen_leg, fare_leg, is_leg_choice, is_change_choice, is_leg_paid, is_change_paid, is_fare_choice}
 use Rattle.feed_rows.specs.FareSteps.{Run, change_to}
-use Rattle.feed_rows.specs.FareStands.{extends, next_run, IsRunAt}
+use Rattle.feed_rows.specs.FareStands.{next_run, IsRunAt}
 use Rattle.plain_laws.proofs.Laws.{collect_below-same, all_below-same, slice_get-append_left, slice_get-push_last, slice_get-old_item, slice_get-new_item}
-use Rattle.feed_laws.proofs.FareLaws.{IsRunAt-prefix, change_at-prefix, change_of_run, extends_of_run, run_of_next, run_start-prefix}
-use Rattle.feed_laws.proofs.TransferLaws.{run_start-on, run_start-off}
+use Rattle.feed_laws.proofs.FareLaws.{IsRunAt-prefix, change_at-prefix, change_of_run, run_of_next}
 use Rattle.feed_laws.proofs.SumLaws.{IsPushed}
 
 -- the legs of one more ride
@@ -65,25 +64,6 @@ module _ (feed : FeedRows) (legs : List LegFacts) (leg : LegFacts) (picks : List
   -- the run of the new leg is the next run
   pub run_of_push : IsRunAt feed (fare_leg feed (legs ++ leg ∷ []) (picks ++ pick ∷ [])) (suc n) (next_run feed run next)
   run_of_push = run_of_next feed (fare_leg feed (legs ++ leg ∷ []) (picks ++ pick ∷ [])) n run next run_stays new_leg
-
-  -- it starts where the run before started, where the new leg goes on with that, and else with the new leg
-  pub run_start_push : run_start feed (fare_leg feed (legs ++ leg ∷ []) (picks ++ pick ∷ [])) (suc n)
-      ≡ (if extends feed run next then run_start feed (fare_leg feed legs picks) n else suc n)
-  run_start_push = by (extends feed run next) refl
-    where
-      longer : ℕ → Option FareLeg
-      longer = fare_leg feed (legs ++ leg ∷ []) (picks ++ pick ∷ [])
-
-      goes : goes_on feed longer (run_start feed longer n) n ≡ extends feed run next
-      goes = extends_of_run feed longer n run next run_stays new_leg
-
-      by : (b : Bool) → extends feed run next ≡ b →
-          run_start feed longer (suc n) ≡ (if b then run_start feed (fare_leg feed legs picks) n else suc n)
-      by true e =
-          run_start-on feed longer n (goes ∙ e)
-          ∙ run_start-prefix feed longer (fare_leg feed legs picks) n
-          (λ j le. fare_leg-append feed legs (leg ∷ []) picks (pick ∷ []) j (omega arith) (omega arith))
-      by false e = run_start-off feed longer n (goes ∙ e) ∙ omega arith
 
   -- the change to the new leg is the change from the run of the last
   pub change_at_push : change_at feed (fare_leg feed (legs ++ leg ∷ []) (picks ++ pick ∷ [])) n ≡ change_to run next

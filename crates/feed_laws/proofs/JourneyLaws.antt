@@ -1,5 +1,5 @@
 -- A journey of a query is a course along its rides.
-use Rattle.std.proofs.Common.{◌≡◌, refl, sym, ◌∙◌, ap, subst, ℕ, zero, suc, ◌+◌, ◌<◌, ◌≤◌, ◌⊎◌, inl, inr, true, List, [], ◌∷◌, ◌++◌, length, get_or, arith}
+use Rattle.std.proofs.Common.{◌≡◌, refl, sym, ◌∙◌, ap, subst, ℕ, zero, suc, ◌+◌, ◌<◌, ◌≤◌, ◌⊎◌, inl, inr, true, List, [], length, get_or, arith}
 use Rattle.std.specs.Prelude.{Some, slice_get, option_and_then, All, IsTrue, ℤ, pos, ◌+ℤ◌, ◌≤ℤ◌}
 use Rattle.std.proofs.lemmas.Bool.{cases_lt, ne_eqb}
 use Rattle.std.proofs.lemmas.Option.{slice_get-get_or, same_Some, cond_some}
@@ -14,7 +14,7 @@ use Rattle.feed_rows.specs.StopLinks.{link}
 use Rattle.feed_rows.specs.Journeys.{stands_for, facts_at, is_caught, catches_first, catches_next, arrival_after, IsJourney}
 use Rattle.feed_rows.specs.JourneyStands.{Stand, first_stand, stand_at_end, way_to, stand_by, next_stand, stand_after, end_arrival}
 use Rattle.plain_laws.specs.Plain.{after}
-use Rattle.plain_laws.proofs.Laws.{filled_and-true, cond_gives, holds_else, option_and_then-assoc, chain_gives, after_first-push, after_first-append, after_first-all}
+use Rattle.plain_laws.proofs.Laws.{filled_and-true, cond_gives, holds_else, option_and_then-assoc, chain_gives, after_first-all}
 
 -- a ride whose facts are known is one of the feed
 pub is_ride-of_facts : (feed : FeedRows) (ride : Ride) (facts : RideFacts) → ride_facts feed ride ≡ Some facts → is_ride feed ride ≡ true
@@ -194,16 +194,6 @@ journey_of_travelled feed query journey arrival w =
       in_time = w.in_time;
     }
 
--- one more ride at the end is taken from where one stands after the others
-pub stand_after-push : (feed : FeedRows) (query : Query) (first : StopId) (rides : List Ride) (ride : Ride) →
-    stand_after feed query first (rides ++ ride ∷ []) (length rides + 1) ≡ option_and_then (λ stand. next_stand feed query stand ride) (stand_after feed query first rides (length rides))
-stand_after-push feed query first rides ride = after_first-push (next_stand feed query) (first_stand query first) rides ride
-
--- the course along the first rides looks at no ride that comes later
-pub stand_after-append : (feed : FeedRows) (query : Query) (first : StopId) (rides more : List Ride) (n : ℕ) → n ≤ length rides →
-    stand_after feed query first (rides ++ more) n ≡ stand_after feed query first rides n
-stand_after-append feed query first rides more n le = after_first-append (next_stand feed query) (first_stand query first) rides more n le
-
 -- the course along all rides is the course from the front
 pub stand_after-all : (feed : FeedRows) (query : Query) (first : StopId) (rides : List Ride) →
     stand_after feed query first rides (length rides) ≡ after (next_stand feed query) (first_stand query first) rides
@@ -224,20 +214,6 @@ taken_of_next feed query before ride stand e =
     let f = chain_gives (stand_by feed query before) (ride_facts feed ride) stand e in
     let c = cond_some (is_caught before.at (way_to feed query before f.value.from) f.value) (stand_at_end f.value) stand f.gives in
     record { facts = f.value; is = f.is; caught = c.0; stands = c.1 }
-
--- where a ride is caught, the next stand is at its end
-pub next_of_taken : (feed : FeedRows) (query : Query) (before : Stand) (ride : Ride) (stand : Stand) →
-    IsTaken feed query before ride stand → next_stand feed query before ride ≡ Some stand
-unfolding next_stand
-next_of_taken feed query before ride stand t =
-    let gives : option_and_then (stand_by feed query before) (ride_facts feed ride) ≡ Some (stand_at_end t.facts) = rw (t.is, t.caught) refl in
-    gives ∙ ap Some t.stands
-
--- a ride that can be taken is one of the feed
-pub is_ride-of_next : (feed : FeedRows) (query : Query) (before : Stand) (ride : Ride) (stand : Stand) →
-    next_stand feed query before ride ≡ Some stand → is_ride feed ride ≡ true
-is_ride-of_next feed query before ride stand e =
-    let t = taken_of_next feed query before ride stand e in is_ride-of_facts feed ride t.facts t.is
 
 -- a course from the front that ends in time is a journey
 pub journey_of_after : (feed : FeedRows) (query : Query) (journey : Journey) (arrival : ℤ) (stand : Stand) →

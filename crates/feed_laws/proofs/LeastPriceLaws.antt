@@ -1,6 +1,6 @@
 -- The least price of rides is the least price of their legs.
 use Rattle.std.proofs.Common.{◌≡◌, sym, ◌∙◌, ap, List}
-use Rattle.std.specs.Prelude.{Option, Some, None, ℤ, option_and_then}
+use Rattle.std.specs.Prelude.{Option, Some, ℤ, option_and_then}
 use Rattle.feed_rows.specs.declared.journeys.Buyer.{Buyer}
 use Rattle.feed_rows.specs.declared.journeys.LegFacts.{LegFacts}
 use Rattle.feed_rows.specs.declared.journeys.Ride.{Ride}
@@ -30,13 +30,6 @@ pub rides_price-legs : (feed : FeedRows) (rides : List Ride) (legs : List LegFac
 rides_price-legs feed rides legs buyer is choice = ap
     (λ (o : Option (List LegFacts)). option_and_then (λ ls. fare_price feed ls choice buyer) o) is
 
--- the least price of rides is that of their legs
-pub least_price_of_legs : (feed : FeedRows) (rides : List Ride) (legs : List LegFacts) (buyer : Buyer) →
-    legs_of feed rides ≡ Some legs →
-    (choice : Choice) (price : ℤ) → IsLeastPrice feed rides buyer choice price →
-    IsLeastPriceOfLegs feed legs buyer choice price
-least_price_of_legs feed rides legs buyer is = IsLeastBy-same _ _ (rides_price-legs feed rides legs buyer is)
-
 pub least_price_of_rides : (feed : FeedRows) (rides : List Ride) (legs : List LegFacts) (buyer : Buyer) →
     legs_of feed rides ≡ Some legs →
     (choice : Choice) (price : ℤ) → IsLeastPriceOfLegs feed legs buyer choice price →
@@ -44,19 +37,7 @@ pub least_price_of_rides : (feed : FeedRows) (rides : List Ride) (legs : List Le
 least_price_of_rides feed rides legs buyer is = IsLeastBy-same _ _
     (λ c. sym (rides_price-legs feed rides legs buyer is c))
 
--- rides are uncovered where their legs are
-pub uncovered_legs : (feed : FeedRows) (rides : List Ride) (legs : List LegFacts) (buyer : Buyer) →
-    legs_of feed rides ≡ Some legs →
-    IsUncovered feed rides buyer → AreUncoveredLegs feed legs buyer
-uncovered_legs feed rides legs buyer is = HasNoPrice-same _ _ (rides_price-legs feed rides legs buyer is)
-
 pub uncovered_rides : (feed : FeedRows) (rides : List Ride) (legs : List LegFacts) (buyer : Buyer) →
     legs_of feed rides ≡ Some legs →
     AreUncoveredLegs feed legs buyer → IsUncovered feed rides buyer
 uncovered_rides feed rides legs buyer is = HasNoPrice-same _ _ (λ c. sym (rides_price-legs feed rides legs buyer is c))
-
--- rides that have a least price are rides of the feed, since without legs no choice pays them
-pub uncovered_without_legs : (feed : FeedRows) (rides : List Ride) (buyer : Buyer) →
-    legs_of feed rides ≡ None → IsUncovered feed rides buyer
-uncovered_without_legs feed rides buyer none choice = ap
-    (λ (o : Option (List LegFacts)). option_and_then (λ ls. fare_price feed ls choice buyer) o) none

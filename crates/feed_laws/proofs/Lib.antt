@@ -19,7 +19,6 @@ pub mod SoundTests
 pub mod SoundTrips
 pub mod StandLaws
 pub mod StopSetLaws
-pub mod SumBounds
 pub mod SumLaws
 pub mod TimedLaws
 pub mod TransferLaws

@@ -14,7 +14,7 @@ use Rattle.feed_rows.specs.FeedRows.{FeedRows}
 use Rattle.plain_laws.specs.Plain.{at_and, find_below}
 use Rattle.feed_rows.specs.FareChoices.{is_open}
 use Rattle.feed_rows.specs.OpenRows.{is_least_open, least_open_row}
-use Rattle.plain_laws.proofs.Laws.{filled_and-true, IsFirst, NonePass, find_below_hit, find_below_cases, find_below_tells, least_of_some, place_of_any, list_all-at, list_all-from, list_any-place}
+use Rattle.plain_laws.proofs.Laws.{filled_and-true, IsFirst, NonePass, find_below_hit, find_below_cases, find_below_tells, least_of_some, place_of_any, list_all-at, list_all-from}
 
 -- the row is open, no open row is cheaper, and each open row before it is dearer
 pub record IsLeastOpenRow (feed : FeedRows) (product : ProductId) (buyer : Buyer)
@@ -197,13 +197,3 @@ module _ (feed : FeedRows) (product : ProductId) (buyer : Buyer) where
           (l.is_item (is_least_open feed product buyer) (and_from _ _ l.passes l.least)) in
           absurd (step (find_below_cases (λ i. at_and feed.products i (is_least_open feed product buyer))
           (length feed.products)) place.index place.item place.is place.passes)
-
-  -- and a row is found where one is open
-  pub least_open_row-open : (j : ℕ) (row : ProductRow) → slice_get feed.products j ≡ Some row →
-      is_open product buyer row ≡ true → (id : ProductRowId) × (least_open_row feed product buyer ≡ Some id)
-  least_open_row-open j row at opens = by (least_open_row feed product buyer) refl
-    where
-      by : (o : Option ProductRowId) → least_open_row feed product buyer ≡ o → (id : ProductRowId) × (o ≡ Some id)
-      by None none = let bad : true ≡ false = sym (list_any-place
-          (is_open product buyer) feed.products j row at opens) ∙ least_open_row-none none in absurd (cc)
-      by (Some id) found = (id, refl)

@@ -1,10 +1,8 @@
 -- The laws of the two orders of triples.
 use Rattle.std.proofs.Common.{◌≡◌, ℕ, true, false, arith, ap, ◌∙◌}
-use Rattle.std.specs.Prelude.{ℤ, int_le, int_lt, nat_le, ◌≢◌}
+use Rattle.std.specs.Prelude.{ℤ, int_le, int_lt, nat_le}
 use Rattle.std.proofs.lemmas.Int.{ints}
 use Rattle.std.proofs.lemmas.Bool.Decides.{nat_tests}
-use Rattle.std.proofs.lemmas.Bool.{cases_Bool}
-use mathlib.Core.Logic.{◌⊎◌, inl, inr}
 use Rattle.feed_rows.specs.declared.fares.Triple.{Triple}
 use Rattle.feed_rows.specs.ParetoTriples.{at_most, is_before}
 
@@ -90,18 +88,6 @@ is_before-trans a b c p q = before_of_ahead a c (ahead-trans a b c (ahead_of_bef
 pub at_most-of_level : (a b : Triple) → is_before a b ≡ false → is_before b a ≡ false → at_most a b ≡ true
 at_most-of_level a b p q = grind (arith, ints, nat_tests)
 
--- where neither stands before the other, they are equal
-pub is_before-total : (a b : Triple) → is_before a b ≡ false → is_before b a ≡ false → a ≡ b
-is_before-total a b p q = at_most-antisym a b (at_most-of_level a b p q) (at_most-of_level b a q p)
-
 -- what is at most a triple does not stand after it
 pub is_before-of_at_most : (a b : Triple) → at_most a b ≡ true → is_before b a ≡ false
 is_before-of_at_most a b p = grind (arith, ints, nat_tests)
-
--- what is at most a triple, and not the same, stands before it
-pub is_before-of_less : (a b : Triple) → at_most a b ≡ true → a ≢ b → is_before a b ≡ true
-is_before-of_less a b p differs = by (cases_Bool (is_before a b))
-  where
-    by : (is_before a b ≡ true) ⊎ (is_before a b ≡ false) → is_before a b ≡ true
-    by (inl h) = h
-    by (inr h) = absurd (differs (is_before-total a b h (is_before-of_at_most a b p)))

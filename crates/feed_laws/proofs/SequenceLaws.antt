@@ -89,13 +89,6 @@ before_from_sorted rows sorted apart i j d lt within =
     less : (a b : StopTimeRow) → IsNotAfter a b → IsApart a b → IsBefore a b
     less a b le apart = omega arith
 
--- rows that ascend strictly are apart
-pub apart_from_before : (rows : List StopTimeRow) → AllPairs IsBefore rows → AllPairs IsApart rows
-apart_from_before rows before i j d lt within = unequal (get_or rows i d) (get_or rows j d) (before i j d lt within)
-  where
-    unequal : (a b : StopTimeRow) → IsBefore a b → IsApart a b
-    unequal a b lt same = omega arith
-
 -- the rows in order ascend strictly where their sequences are apart
 pub in_sequence_strict : (rows : List StopTimeRow) → AllPairs IsApart rows → AllPairs IsBefore (in_sequence rows)
 in_sequence_strict rows apart = before_from_sorted (in_sequence rows) (in_sequence_sorted rows) (apart_permutation rows (in_sequence rows) (IsPermutation-in_sequence rows) apart)
@@ -111,18 +104,6 @@ in_sequence_only rows sorted apart ups same =
       there = λ x at. (in_sequence_members rows).there x (same.back x at);
       back = λ x at. same.there x ((in_sequence_members rows).back x at);
     })
-
--- and so is any order of the rows that ascends strictly, as a sort gives it
-pub in_sequence_from_sort : (rows sorted : List StopTimeRow) → IsPermutation rows sorted → AllPairs IsBefore sorted → sorted ≡ in_sequence rows
-in_sequence_from_sort rows sorted moved ups =
-    in_sequence_only rows sorted (apart_permutation sorted rows (IsPermutation-sym _ _ moved) (apart_from_before sorted ups)) ups (record {
-      there = λ x at. Contains-permutation rows sorted x moved at;
-      back = λ x at. Contains-permutation sorted rows x (IsPermutation-sym _ _ moved) at;
-    })
-
--- a sort that lets no row fall gives the list in order where the sequences are apart
-pub in_sequence_from_sort_apart : (rows sorted : List StopTimeRow) → AllPairs IsApart rows → IsPermutation rows sorted → AllPairs IsNotAfter sorted → sorted ≡ in_sequence rows
-in_sequence_from_sort_apart rows sorted apart moved ups = in_sequence_from_sort rows sorted moved (before_from_sorted sorted ups (apart_permutation rows sorted moved apart))
 
 -- what holds of all stop times of a feed holds of those of a trip
 pub trip_stop_times_all : (P : StopTimeRow → Type 0) (feed : FeedRows) (trip : TripId) → All P feed.stop_times → All P (trip_stop_times feed trip)
@@ -166,8 +147,3 @@ trip_rows_apart feed trip apart =
 -- the stop times of a trip ascend strictly
 pub trip_stop_times_strict : (feed : FeedRows) (trip : TripId) → AreCallsApart feed → AllPairs IsBefore (trip_stop_times feed trip)
 trip_stop_times_strict feed trip apart = in_sequence_strict (filter (λ r. r.trip.0 == trip.0) feed.stop_times) (trip_rows_apart feed trip apart)
-
--- and a sort of a trip's rows gives them
-pub trip_stop_times_from_sort : (feed : FeedRows) (trip : TripId) (sorted : List StopTimeRow) → AreCallsApart feed → IsPermutation (filter (λ r. r.trip.0 == trip.0) feed.stop_times) sorted → AllPairs IsNotAfter sorted → sorted ≡ trip_stop_times feed trip
-trip_stop_times_from_sort feed trip sorted apart moved ups =
-    in_sequence_from_sort_apart (filter (λ r. r.trip.0 == trip.0) feed.stop_times) sorted (trip_rows_apart feed trip apart) moved ups

@@ -14,7 +14,7 @@ use Rattle.plain_laws.specs.Plain.{IsAscending, int_same, any_below, list_below}
 use Rattle.feed_rows.specs.Calls.{first_departure}
 use Rattle.feed_rows.specs.Shifts.{has_run, run_count, run_starts, with_number, ascending_of, trip_frequencies, has_frequencies, shifts_of, is_run_start, is_shift}
 use Rattle.feed_rows.specs.TimedTrips.{DoRunsEndBy}
-use Rattle.plain_laws.proofs.Laws.{any_below_hit, any_below_tells, Contains-list_below, list_below_tells, list_any-list_below, picks_below_first, HaveSameMembers, AllPairs-cons, AllPairs-tail, AllPairs-head, Contains-cons_cases, Contains-cons_first, Contains-cons_later, same_from_members, less_order, int_lt-true, int_same-true, eq-int_same, int_above, All-from, ascending_from_strict, strict_from_ascending, same_test, list_any-map, list_any-flat_map, list_any-filter, list_any_same, list_any_tells}
+use Rattle.plain_laws.proofs.Laws.{any_below_hit, any_below_tells, list_any-list_below, picks_below_first, HaveSameMembers, AllPairs-cons, AllPairs-tail, AllPairs-head, Contains-cons_cases, Contains-cons_first, Contains-cons_later, same_from_members, less_order, int_lt-true, int_same-true, eq-int_same, int_above, All-from, ascending_from_strict, strict_from_ascending, same_test, list_any-map, list_any-flat_map, list_any-filter, list_any_same, list_any_tells}
 
 -- a number put into a list is one member more, if it wasn't one
 pub with_number_members : (z : ℤ) (ys : List ℤ) → HaveSameMembers (z ∷ ys) (with_number z ys)
@@ -210,28 +210,6 @@ run_start_number row s run =
     let here : row.start + (s - row.start) / row.headway * row.headway ≡ s = omega (arith, whole, rest) in
     ((s - row.start) / row.headway, run_count_hit row ((s - row.start) / row.headway) some (omega (arith, here)), here)
 
--- the starts of a row's runs: exactly those between start and end that are whole headways after the start
-pub run_starts_tells : (row : FrequencyRow) (s : ℕ) → Contains (run_starts row) s → IsRunStart row s
-run_starts_tells row s at =
-    let found = list_below_tells (run_count row) (λ x. row.start + x * row.headway) s (rw run_starts_counted at at) in
-    let within = run_count_tells row found.0 found.1 in
-    subst (IsRunStart row) found.2 (run_start_at row found.0 within.0 within.1)
-
-pub run_starts_hit : (row : FrequencyRow) (s : ℕ) → IsRunStart row s → Contains (run_starts row) s
-run_starts_hit row s run =
-    let found = run_start_number row s run in
-    rw run_starts_counted (subst (Contains (list_below (run_count row) (λ x. row.start + x * row.headway))) found.2 (Contains-list_below (run_count row) (λ x. row.start + x * row.headway) found.0 found.1))
-
--- the same by the number of the run
-pub run_starts_number : (row : FrequencyRow) (s : ℕ) → Contains (run_starts row) s → (x : ℕ) × (0 < row.headway) × (s ≡ row.start + x * row.headway) × (row.start + x * row.headway < row.end)
-run_starts_number row s at =
-    let found = list_below_tells (run_count row) (λ x. row.start + x * row.headway) s (rw run_starts_counted at at) in
-    let within = run_count_tells row found.0 found.1 in
-    (found.0, within.0, sym found.2, within.1)
-
-pub run_starts_at : (row : FrequencyRow) (x : ℕ) → 0 < row.headway → row.start + x * row.headway < row.end → Contains (run_starts row) (row.start + x * row.headway)
-run_starts_at row x some lt = rw run_starts_counted (Contains-list_below (run_count row) (λ k. row.start + k * row.headway) x (run_count_hit row x some lt))
-
 -- the test of a run's start
 pub is_run_start_hit : (row : FrequencyRow) (s : ℕ) → IsRunStart row s → is_run_start row (pos s) ≡ true
 unfolding is_run_start
@@ -334,9 +312,6 @@ shifts_of_strict feed trip = step (has_frequencies feed trip) refl
     step : (b : Bool) → has_frequencies feed trip ≡ b → AllPairs ◌<ℤ◌ (shifts_of feed trip)
     step true e = rw e (ascending_of_strict (map (λ start. pos start -ℤ pos (first_departure feed trip)) (flat_map run_starts (trip_frequencies feed trip))))
     step false e = rw e (λ i j d lt within. absurd (omega arith))
-
-pub shifts_of_ascending : (feed : FeedRows) (trip : TripId) → IsAscending int_cmp (shifts_of feed trip)
-shifts_of_ascending feed trip = ascending_from_strict (shifts_of feed trip) (shifts_of_strict feed trip)
 
 -- a list that ascends and has those numbers that the test passes is that of the shifts
 pub shifts_of_only : (feed : FeedRows) (trip : TripId) (sorted : List ℤ) → IsAscending int_cmp sorted → ((z : ℤ) → list_any (int_same z) sorted ≡ is_shift feed trip z) → sorted ≡ shifts_of feed trip

@@ -6,7 +6,7 @@ use Rattle.std.specs.Option.{is_some}
 use Rattle.std.proofs.lemmas.Int.{ints}
 use Rattle.std.proofs.lemmas.Bool.{and_parts, eqb-true}
 use Rattle.std.proofs.lemmas.List.{length_push}
-use Rattle.std.proofs.lemmas.Option.{same_Some, cond_some}
+use Rattle.std.proofs.lemmas.Option.{same_Some}
 use Rattle.feed_rows.specs.declared.journeys.Buyer.{Buyer}
 use Rattle.feed_rows.specs.declared.journeys.LegFacts.{LegFacts}
 use Rattle.feed_rows.specs.declared.rows.LegRuleRow.{LegRuleRow}
@@ -17,7 +17,7 @@ use Rattle.feed_rows.specs.FeedRows.{FeedRows}
 use Rattle.plain_laws.specs.Plain.{when}
 use Rattle.feed_rows.specs.TransferRules.{FareLeg, change_at}
 use Rattle.feed_rows.specs.FareChoices.{chosen_leg, fare_leg, is_leg_choice, is_change_choice, is_leg_paid, is_fare_choice}
-use Rattle.feed_rows.specs.FareSums.{amount_of, fare_sum, fare_price}
+use Rattle.feed_rows.specs.FareSums.{amount_of}
 use Rattle.feed_rows.specs.FareSteps.{Run, change_to, frees_next, frees_first, next_held, next_paid, place_kind, place_charge}
 use Rattle.feed_rows.specs.FareStands.{next_run, IsRunAt, FareStand, stand_of_first, stand_of_next, first_fare_stand, next_fare_stand, stand_at, IsStandOf}
 use Rattle.plain_laws.proofs.Laws.{slice_get-append_left, slice_get-push_last, slice_get-old_item, slice_get-new_item}
@@ -391,15 +391,6 @@ stepped feed buyer (suc n) legs picks places long long' long'' =
     (subst (Stepped feed buyer (front.front ++ front.last ∷ []) more (suc n))
     (sym (stand_at-push feed buyer front.front front.last last.choice last.place last.pick more n front.long last.pushed))
     (stepped_next feed buyer front.front front.last last.choice last.place last.pick more n front.long last.pushed _ before))
-
--- where a choice has other places it has no price
-pub fare_price-places : (feed : FeedRows) (buyer : Buyer) (legs : List LegFacts) (choice : Choice)
-    (price : ℤ) →
-    fare_price feed legs choice buyer ≡ Some price → (length choice.legs ≡ length legs)
-    × (length choice.changes ≡ length legs - 1)
-fare_price-places feed buyer legs choice price is =
-    places_of_paid feed buyer legs choice (cond_some (is_fare_choice feed legs choice buyer)
-    (fare_sum feed choice) price is).0
 
 -- a choice that pays legs, and where fares stand after them
 pub record StandsAfter (feed : FeedRows) (buyer : Buyer) (legs : List LegFacts) (choice : Choice)

@@ -141,22 +141,6 @@ next_paid-total paid held amount change kind = by (is_none kind) (frees_next kin
     by false false true apart = omega (arith, ints)
     by false false false apart = omega (arith, ints)
 
--- a leg that no arranged change enters is held, and what was held is paid
-pub next_paid-apart : (paid held amount change : ℤ) → next_paid paid held None amount change ≡ paid +ℤ held +ℤ change
-next_paid-apart paid held amount change = omega (arith, ints)
-
--- a leg that a change of type 0 enters is free
-pub next_paid-free : (paid held amount change : ℤ) → next_paid paid held (Some 0) amount change ≡ paid +ℤ held +ℤ change
-next_paid-free paid held amount change = omega (arith, ints)
-
--- a leg that a change of type 1 enters is paid
-pub next_paid-both : (paid held amount change : ℤ) → next_paid paid held (Some 1) amount change ≡ paid +ℤ held +ℤ change +ℤ amount
-next_paid-both paid held amount change = omega (arith, ints)
-
--- a leg that a change of type 2 enters is free, and so is the leg before it where that is the first of its chain
-pub next_paid-change_alone : (paid held amount change : ℤ) → next_paid paid held (Some 2) amount change ≡ paid +ℤ change
-next_paid-change_alone paid held amount change = omega (arith, ints)
-
 -- the one choice is the other with one more leg, and the place of the change to it
 pub record IsPushed (choice : Choice) (place : Option ChangeChoice) (pick : LegChoice) (more : Choice) (n : ℕ) : Type 0 where
   pub legs : length choice.legs ≡ suc n

@@ -1,5 +1,5 @@
 -- The timed rows of a trip: the nearest before and after a position, and how they go on from position to position.
-use Rattle.std.proofs.Common.{◌≡◌, refl, sym, ◌∙◌, ap, ℕ, suc, ◌+◌, ◌-◌, ◌<◌, ◌≤◌, ◌⊎◌, inl, inr, ⊎_elim, Bool, true, false, ◌&&◌, nat_lt, List, length, get_or, arith}
+use Rattle.std.proofs.Common.{◌≡◌, refl, sym, ◌∙◌, ap, ℕ, ◌+◌, ◌-◌, ◌<◌, ◌≤◌, ◌⊎◌, inl, inr, ⊎_elim, Bool, true, false, ◌&&◌, nat_lt, List, length, get_or, arith}
 use Rattle.std.specs.Prelude.{Option, Some, None, IsSome, slice_get, option_and_then}
 use Rattle.std.proofs.lemmas.Bool.{cases_lt, cases_eq, cases_Bool, and_parts, and_from}
 use Rattle.std.proofs.lemmas.Bool.Decides.{nat_tests}
@@ -8,7 +8,7 @@ use Rattle.feed_rows.specs.declared.rows.StopTimeRow.{StopTimeRow}
 use Rattle.feed_rows.specs.Calls.{first_time, last_time, is_timed, timed_before, timed_after}
 use Rattle.feed_rows.specs.CallPass.{next_timed}
 use Rattle.feed_rows.specs.TimedTrips.{first_at, last_at, is_timed_at, HasTimedEnds}
-use Rattle.plain_laws.proofs.Laws.{find_below_none, find_below_hit, find_below_tells, find_below_some, find_below-same, last_below_hit, last_below_tells, last_below_some}
+use Rattle.plain_laws.proofs.Laws.{find_below_none, find_below_hit, find_below_tells, find_below_some, last_below_hit, last_below_tells, last_below_some}
 
 -- p is the nearest timed position before m
 pub record IsTimedBefore (rows : List StopTimeRow) (m p : ℕ) : Type 0 where
@@ -29,14 +29,6 @@ timed_within rows m timed = step (cases_lt m (length rows))
     step : (m < length rows) ⊎ (length rows ≤ m) → m < length rows
     step (inl lt) = lt
     step (inr past) = let past' = slice_get_past rows m past in let no : false ≡ true = rw past' at timed in absurd (cc)
-
--- the nearest timed position before the next position is the present one, where it is timed
-pub timed_before_timed : (rows : List StopTimeRow) (m : ℕ) → is_timed_at rows m ≡ true → timed_before rows (m + 1) ≡ Some m
-timed_before_timed rows m timed = let e : m + 1 ≡ suc m = omega arith in rw (e, timed) refl
-
--- and else the same as before
-pub timed_before_untimed : (rows : List StopTimeRow) (m : ℕ) → is_timed_at rows m ≡ false → timed_before rows (m + 1) ≡ timed_before rows m
-timed_before_untimed rows m untimed = let e : m + 1 ≡ suc m = omega arith in rw (e, untimed) refl
 
 -- the nearest timed position before, by what it is
 pub timed_before_hit : (rows : List StopTimeRow) (m p : ℕ) → IsTimedBefore rows m p → timed_before rows m ≡ Some p
@@ -119,20 +111,6 @@ pub next_timed_end : (rows : List StopTimeRow) (p q : ℕ) → ((k : ℕ) → p 
 next_timed_end rows p q none le =
     let found = timed_after_none rows p (λ k from to. none k from (omega arith)) in
     rw found refl
-
--- the nearest timed position after the next position is that after the present one, where the next row has no time
-pub timed_after_untimed : (rows : List StopTimeRow) (m : ℕ) → is_timed_at rows (m + 1) ≡ false → timed_after rows (m + 1) ≡ timed_after rows m
-timed_after_untimed rows m untimed = find_below-same (λ k. nat_lt (m + 1) k && is_timed_at rows k) (λ k. nat_lt m k && is_timed_at rows k) (length rows) (λ k lt. same k (cases_eq k (m + 1)))
-  where
-    same : (k : ℕ) → (k ≡ m + 1) ⊎ (k ≡ m + 1 → ⊥) → (nat_lt (m + 1) k && is_timed_at rows k) ≡ (nat_lt m k && is_timed_at rows k)
-    same k (inl e) = let here : is_timed_at rows k ≡ false = rw e untimed in rw here (none (nat_lt (m + 1) k) (nat_lt m k))
-      where
-        none : (a b : Bool) → (a && false) ≡ (b && false)
-        none true true = refl
-        none true false = refl
-        none false true = refl
-        none false false = refl
-    same k (inr apart) = let tests : nat_lt (m + 1) k ≡ nat_lt m k = grind (arith, nat_tests) in rw tests refl
 
 -- where the rows from the position before on have no times, both have one next timed position
 pub timed_after_gap : (rows : List StopTimeRow) (m p q : ℕ) → IsTimedBefore rows m p → is_timed_at rows m ≡ false → IsTimedAfter rows m q → IsTimedAfter rows p q

@@ -20,10 +20,6 @@ none_at_all g zero none = refl
 none_at_all g (suc n) none = rw (none_at_all g n (λ k lt. none k (omega arith)), none n (omega arith)) refl
 
 module _ {X Y : Type 0} (ys : List Y) (f : ℕ → Y → Option X) (n : ℕ) where
-  -- before any item
-  pub least_start : IsLeast ys f 0 n n None
-  least_start = record { within = omega arith; none = λ k lt. refl; here = inl (refl, refl) }
-
   -- an item that gives nothing
   pub least_kept : (i below : ℕ) (found : Option X) (d : Y) → i < length ys → IsLeast ys f i n below found → ((k : ℕ) → k < below → f k (get_or ys i d) ≡ None) → IsLeast ys f (i + 1) n below found
   least_kept i below found d lt least nothing =

@@ -1,6 +1,5 @@
 -- The shapes of columns and of their grammars.
 use Rattle.std.specs.Prelude.{ℕ, pos}
-use Rattle.transit_base.specs.Limits.{most_time, day_seconds}
 use Rattle.feed_files.specs.declared.names.ColumnName.{ColumnName}
 use Rattle.feed_faults.specs.declared.columns.Grammar.{Grammar}
 use Rattle.feed_faults.specs.declared.columns.Grammar.TheVariants as grammar
@@ -34,10 +33,3 @@ currency = grammar.Currency
 
 abbrev pub amount : Grammar
 amount = grammar.Amount
-
--- times of at most 167:59:59, and of at most 24:00:00
-abbrev pub any_time : Grammar
-any_time = grammar.Time most_time
-
-abbrev pub day_time : Grammar
-day_time = grammar.Time day_seconds

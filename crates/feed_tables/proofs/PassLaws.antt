@@ -2,7 +2,7 @@
 use Rattle.std.proofs.Common.{◌≡◌, ◌<◌, ℕ, List, length, get_or, Option, None, ap, ◌∙◌}
 use Rattle.std.specs.Option.{option_or}
 use Rattle.plain_laws.specs.Plain.{first_below, first_in}
-use Rattle.plain_laws.proofs.Laws.{at_item, first_below_found, first_in_found}
+use Rattle.plain_laws.proofs.Laws.{at_item, first_in_found}
 use Rattle.feed_files.specs.declared.faults.FeedFault.{FeedFault}
 use Rattle.feed_text.specs.declared.errors.TextError.{TextError}
 use Rattle.feed_text.specs.declared.errors.TextError.TheVariants as error
@@ -22,8 +22,3 @@ error_later first later error.NoMemory none is = tt
 pub error_at : {Y : Type 0} (ys : List Y) (f : Y → Option FeedFault) (i : ℕ) (d : Y) (e : TextError) → i < length ys → first_below i (at_item ys f) ≡ None → IsErrorOf (f (get_or ys i d)) e → IsErrorOf (first_in ys f) e
 error_at ys f i d (error.Fault found) lt none is = first_in_found ys f i d found lt none is
 error_at ys f i d error.NoMemory lt none is = tt
-
--- so is an error at a row the first of the rows
-pub error_below : (f : ℕ → Option FeedFault) (n i : ℕ) (e : TextError) → i < n → first_below i f ≡ None → IsErrorOf (f i) e → IsErrorOf (first_below n f) e
-error_below f n i (error.Fault found) lt none is = first_below_found f n i found lt none is
-error_below f n i error.NoMemory lt none is = tt

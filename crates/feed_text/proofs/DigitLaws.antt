@@ -69,9 +69,6 @@ kept : (a n w : ℕ) (b : Bool) → nat_le a n ≡ b → Some w ≡ when b a →
 kept a n w true t e = (cc, grind (arith, nat_tests))
 kept a n w false t e = absurd (cc)
 
-pub bounded_some : (a n w : ℕ) → Some w ≡ when_at_most n (Some a) → (w ≡ a) × (a ≤ n)
-bounded_some a n w e = kept a n w (nat_le a n) refl e
-
 digit_is : (c : ℕ) → is_ascii_digit c ≡ true → digit_value c ≡ c - 48
 digit_is c d = grind (arith, nat_tests)
 

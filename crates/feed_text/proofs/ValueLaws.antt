@@ -1,8 +1,7 @@
 -- Values of fields by the numbers that they tell.
 use Rattle.std.proofs.Common.{◌≡◌, refl, ℕ, ◌≤◌, ◌<◌, ◌^◌, ◌⊎◌, inl, inr, true, false, List, Option, Some, None, arith}
-use Rattle.std.specs.Prelude.{◌&&◌, ℤ, pos, negsuc, int_le, ◌≤ℤ◌, option_map, unwrap_or}
+use Rattle.std.specs.Prelude.{◌&&◌, ℤ, pos, negsuc, int_le, option_map, unwrap_or}
 use Rattle.std.specs.Option.{ForSome}
-use lib.IntN.{nat_abs}
 use Rattle.std.proofs.lemmas.Bool.{cases_Bool, and_parts}
 use Rattle.std.proofs.lemmas.Bool.Decides.{nat_tests}
 use Rattle.std.proofs.lemmas.Option.{same_Some, none-some}
@@ -11,7 +10,7 @@ use Rattle.feed_rows.specs.Numerals.{number_value}
 use Rattle.feed_rows.specs.TimeGrammar.{time_value}
 use Rattle.feed_faults.proofs.TimeLaws.{time_good}
 use Rattle.transit_base.specs.Limits.{most_time}
-use Rattle.feed_faults.specs.FieldValues.{nat_of, time_or}
+use Rattle.feed_faults.specs.FieldValues.{time_or}
 use Rattle.feed_faults.specs.AcceptedFeed.{finite_count}
 use Rattle.feed_text.specs.FieldNumbers.{IsShort}
 
@@ -47,11 +46,6 @@ int_is_short least most text le = step (int_value (pos least) (pos most) text) r
         let same = is.1 in
         let small = is.2 in
         rw same (grind arith, grind (arith, small, le))
-
--- a short number from 0 on is the number that it is
-pub nat_of_some : (z : ℤ) → pos 0 ≤ℤ z → nat_of (Some z) ≡ nat_abs z
-nat_of_some (pos n) low = refl
-nat_of_some (negsuc n) low = absurd (grind (arith, low))
 
 -- a number from 0 on
 pub natural_is : (o : Option ℕ) → finite_count (option_map pos o) ≡ o

@@ -61,10 +61,6 @@ gap_over rows m lt untimed = step (timed_before rows m) refl
         let low = before.before in
         rw (gap_at_before rows m p found) (record { low = λ less. low; high = λ less. to.0; ends = to.1 })
 
--- no gap has begun at first
-pub carried_first : (rows : List StopTimeRow) → IsCarried rows 0 (record { from = 0; left = 0; to = 0; reached = 0 })
-carried_first rows = record { first = λ none. refl; later = λ lt. absurd (omega arith) }
-
 -- a row at its place has a time where the row there has one
 pub row_timed : (rows : List StopTimeRow) (m : ℕ) (row : StopTimeRow) → m < length rows → row ≡ get_or rows m row →
     is_timed_at rows m ≡ is_timed row

@@ -4,8 +4,8 @@ use Rattle.std.specs.Prelude.{Bool, Some, slice_get, slice_range}
 use Rattle.std.specs.List.{list_all}
 use Rattle.std.proofs.lemmas.Bool.{and_parts, cases_eq}
 use Rattle.std.proofs.lemmas.Option.{slice_get-get_or, slice_get_within}
-use Rattle.std.proofs.lemmas.List.{get_or_default, get_or-replicate, length-replicate, length-take, take_all}
-use Rattle.std.proofs.Math.ListN.{replicate, length-set}
+use Rattle.std.proofs.lemmas.List.{get_or_default, length-take, take_all}
+use Rattle.std.proofs.Math.ListN.{length-set}
 use mathlib.Core.Bool.{true≢false}
 use Rattle.feed_rows.specs.declared.journeys.Call.{Call}
 use Rattle.feed_rows.specs.declared.rows.StopTimeRow.{StopTimeRow}
@@ -80,22 +80,6 @@ piece_laid rows from to old kept zeros room new within some short forward same i
           ∙ slice_get-append_left old zeros k inside ∙ at;
       filled = filled;
       none = λ all. absurd (some all);
-    }
-
--- no time is laid at first
-pub nothing_laid : (rows : List StopTimeRow) (trips : ℕ) (stretches : List Stretch) (times : List ℕ) →
-    stretches ≡ replicate trips no_stretch → times ≡ [] → AreLaid rows 0 stretches times
-nothing_laid rows trips stretches times are none =
-    let size = ap length none in
-    record {
-      short = omega (arith, size);
-      filled = λ t lt m below untimed.
-          let within : t < trips = rw (are, length-replicate trips no_stretch) at lt in
-          let empty : get_or stretches t no_stretch ≡ no_stretch =
-          ap (λ xs. get_or xs t no_stretch) are ∙ get_or-replicate trips t no_stretch no_stretch within in
-          let no = rw empty at below in
-          absurd (omega (arith, no));
-      none = λ all. none;
     }
 
 -- a piece is put at its trip's stretch, and its times are laid

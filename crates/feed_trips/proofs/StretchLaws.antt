@@ -260,15 +260,6 @@ piece_on rows from place before start lt on = step (cases_eq place 0)
         subst (λ f. IsPiece rows f (place + 1)) (first ∙ sym (start first)) alone
     step (inr later) = piece_more rows from place (before (omega arith)) lt on
 
--- where the last piece begins behind all rows, there are none
-pub none_left : (rows : List StopTimeRow) (from place : ℕ) → (0 < place → IsPiece rows from place) → (place ≡ 0 → from ≡ 0)
-    → place ≤ length rows → length rows ≤ from → from ≡ length rows
-none_left rows from place before start le none = step (cases_eq place 0)
-  where
-    step : (place ≡ 0) ⊎ (place ≡ 0 → ⊥) → from ≡ length rows
-    step (inl first) = let zero = start first in omega (arith, zero, none)
-    step (inr later) = let some = (before (omega arith)).some in absurd (omega (arith, some, le, none))
-
 -- rows whose sequences don't fall are in order of them
 in_order_already : (rows : List StopTimeRow) → ((k : ℕ) (d : StopTimeRow) → k + 1 < length rows → (get_or rows k d).sequence ≤ (get_or rows (k + 1) d).sequence) → in_sequence rows ≡ rows
 in_order_already [] up = refl

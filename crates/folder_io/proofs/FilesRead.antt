@@ -39,10 +39,6 @@ IsSoFar holds name left bytes = IfSome holds (λ contents. IsWhole (contents nam
 abbrev pub AreRead : Option Contents → List ℕ → ℕ → Option (List ℕ) → FileBytes → Type 0
 AreRead holds name limit left bytes = IfSome holds (λ contents. IsRead contents name limit bytes) × IfSome holds (λ contents. StopsPast contents name limit left bytes)
 
--- what is held of a file of a feed
-abbrev pub held_under : Contents → FileName → HeldFile
-held_under folder name = held_within most_bytes (folder (file_text name))
-
 -- a piece behind the bytes so far
 pub piece_put : (bytes more room rest : List ℕ) (n : ℕ) → more ≡ bytes ++ take n (room ++ rest) → n ≤ length room → (more ≡ bytes ++ take n room) × (length more ≡ length bytes + n)
 piece_put bytes more room rest n e le =

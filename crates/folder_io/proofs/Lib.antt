@@ -1,7 +1,6 @@
 pub mod LogLaws
 pub mod PlaceLaws
 pub mod FilesRead
-pub mod FilesHeld
 pub mod WholeLaws
 pub mod Utf8Laws
 pub mod PiecesLaws

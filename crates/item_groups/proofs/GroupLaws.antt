@@ -177,15 +177,6 @@ pub group_of-joined_below : {X : Type 0} (n : ℕ) (f : ℕ → List (Grouped X)
 group_of-joined_below zero f i = refl
 group_of-joined_below (suc n) f i = group_of-append (joined_below n f) (f n) i ∙ ap (λ xs. xs ++ group_of (f n) i) (group_of-joined_below n f i)
 
--- items that are all of one group
-pub group_of-own : {X : Type 0} (i : ℕ) (xs : List X) → group_of (map (λ x. record { group = i; item = x }) xs) i ≡ xs
-group_of-own i [] = refl
-group_of-own i (x ∷ xs) = let own : (i == i) ≡ true = grind (arith, nat_tests) in rw own (ap (λ ys. x ∷ ys) (group_of-own i xs))
-
-pub group_of-other : {X : Type 0} (k i : ℕ) (xs : List X) → (k ≡ i → ⊥) → group_of (map (λ x. record { group = k; item = x }) xs) i ≡ []
-group_of-other k i [] apart = refl
-group_of-other k i (x ∷ xs) apart = let other : (k == i) ≡ false = grind (arith, nat_tests, apart) in rw other (group_of-other k i xs apart)
-
 -- an item of a group, with the group's number
 get_or-items : {X : Type 0} (ms : List (Grouped X)) (i j : ℕ) (d : X) → get_or (map (λ m. m.item) ms) i d ≡ (get_or ms i (record { group = j; item = d })).item
 get_or-items [] i j d = refl

@@ -2,11 +2,10 @@
 use Rattle.std.proofs.Common.{◌≡◌, ℕ, ◌+◌, ◌-◌, ◌<◌, ◌≤◌, ◌++◌, List, [], ◌∷◌, zero, suc, length, take, drop, get_or, Some, refl, ap, sym, ◌∙◌, length-append, length-drop, arith}
 use Rattle.std.specs.Prelude.{slice_get, slice_range}
 use Rattle.std.proofs.Math.Seq.{drop-append_seam, take-length}
-use Rattle.std.proofs.lemmas.List.{take_all, take-append-le, drop-append-le, same_lists}
+use Rattle.std.proofs.lemmas.List.{take_all, take-append-le, drop-append-le}
 use Rattle.std.proofs.lemmas.Option.{slice_get-get_or}
 use Rattle.item_groups.specs.Parts.{parts, Rise, start_of}
-use Rattle.plain_laws.specs.Plain.{joined_below, list_below}
-use Rattle.plain_laws.proofs.Laws.{length-list_below, get_or-list_below}
+use Rattle.plain_laws.specs.Plain.{joined_below}
 
 pub rise_le : (s : ℕ) (ends : List ℕ) (n : ℕ) → Rise s ends n → s ≤ n
 rise_le s [] n h = omega (arith, h)
@@ -94,15 +93,6 @@ start_past s (e ∷ ends) n rise = start_past e ends n rise.1
 pub joined-parts : {A : Type 0} (ends : List ℕ) (xs : List A) → Rise 0 ends (length xs) → xs ≡ joined_below (length (parts 0 ends xs)) (λ i. get_or (parts 0 ends xs) i [])
 joined-parts ends xs rise =
     sym (rw (length_parts 0 ends xs) (joined-first ends xs (length ends) rise (omega arith) ∙ ap (λ n. take n xs) (start_past 0 ends (length xs) rise) ∙ take_all (length xs) xs (omega arith)))
-
--- parts, one by one
-pub parts-list_below : {A : Type 0} (ends : List ℕ) (xs : List A) (n : ℕ) (f : ℕ → List A) → length ends ≡ n
-    → ((i : ℕ) → i < n → slice_range xs (start_of 0 ends i) (get_or ends i 0) ≡ f i) → parts 0 ends xs ≡ list_below n f
-parts-list_below ends xs n f count each =
-    let long = length_parts 0 ends xs in
-    let made = length-list_below n f in
-    same_lists (parts 0 ends xs) (list_below n f) (omega arith)
-    (λ k d lt. let within : k < length ends = omega arith in let below : k < n = omega arith in part_at 0 ends xs k d within ∙ each k below ∙ sym (get_or-list_below n f k d below))
 
 -- what a part that is appended leaves
 pub pushed_part : {A : Type 0} (ends longer : List ℕ) (xs ys more : List A) (end : ℕ) → Rise 0 ends (length xs) → longer ≡ ends ++ end ∷ [] → more ≡ xs ++ ys → end ≡ length xs + length ys

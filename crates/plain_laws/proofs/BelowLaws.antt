@@ -352,10 +352,6 @@ none_in ys f k y e at =
 pub none_any : (test : ℕ → Bool) (n i : ℕ) → any_below n test ≡ false → i < n → test i ≡ false
 none_any test n i e lt = false_from_ne_true (test i) (λ here. let yes = any_below_hit test n i lt here in let no : false ≡ true = sym e ∙ yes in absurd (cc))
 
--- none below the next number passes the test, where none below this one does, nor this one
-pub any_below_next : (test : ℕ → Bool) (i : ℕ) → any_below i test ≡ false → test i ≡ false → any_below (i + 1) test ≡ false
-any_below_next test i none here = let e : i + 1 ≡ suc i = omega arith in rw (e, none, here) refl
-
 -- the first below the next number, where there is none below this one, nor at this one
 pub first_below_next : {X : Type 0} (f : ℕ → Option X) (i : ℕ) → first_below i f ≡ None → f i ≡ None → first_below (i + 1) f ≡ None
 first_below_next f i none here = let e : i + 1 ≡ suc i = omega arith in rw (e, none, here) refl

@@ -9,7 +9,7 @@ use Rattle.std.specs.Cmp.{booleans_Decides}
 use Rattle.std.specs.Cmp.Lexicographic.{bytes_decides}
 use Rattle.std.proofs.lemmas.Int.{ints}
 use Rattle.std.proofs.lemmas.Bool.{leb-true, le-leb}
-use Rattle.std.proofs.lemmas.Bool.Decides.{Decides-eqb, Decides-int_eq, Decides-ltb, Decides-not, Decides-and, Decides-or, Decides-by_and, Decides-like, not_from_Decides}
+use Rattle.std.proofs.lemmas.Bool.Decides.{Decides-eqb, Decides-int_eq, Decides-ltb, Decides-not, Decides-and, Decides-or, Decides-by_and, Decides-like}
 use Rattle.std.proofs.lemmas.List.Kept.{AllPairs-cons}
 use Rattle.std.proofs.lemmas.Option.{slice_get_within, get_or_from_slice_get, slice_get-get_or, same_Some}
 use Rattle.plain_laws.specs.Items.{ForItem}
@@ -21,10 +21,6 @@ use Rattle.plain_laws.proofs.OrderLaws.{AllPairs-head, AllPairs-tail}
 pub record Test (P : Type 0) : Type 0 where
   pub passes : Bool
   pub decides : Decides passes P
-
--- what fails its test is not so
-pub refuted : {P : Type 0} (test : Test P) → test.passes ≡ false → P → ⊥
-refuted test = not_from_Decides test.passes test.decides
 
 -- a proof of P, where the test passes
 abbrev pub proof_if : {P : Type 0} (b : Bool) → (b ≡ true → P) → Option P

@@ -1,5 +1,5 @@
 -- What a filter keeps, what is found, and the members of what is mapped.
-use Rattle.std.proofs.Common.{◌≡◌, refl, Bool, false, List, [], ◌∷◌, ap, true, ℕ, ◌<◌, ◌≤◌, length, take, arith, ◌+◌, drop, sym, ◌∙◌, ◌-◌, ◌++◌, subst, ◌⊎◌, inl, inr, Contains, ◌||◌, map, flat_map, ◌&&◌, ⊎_elim, None, Some, zero, suc, get_or, Option, position, is_some, length-append}
+use Rattle.std.proofs.Common.{◌≡◌, refl, Bool, false, List, [], ◌∷◌, ap, true, ℕ, ◌<◌, ◌≤◌, length, take, arith, ◌+◌, drop, sym, ◌∙◌, ◌-◌, ◌++◌, subst, ◌⊎◌, inl, inr, Contains, ◌||◌, map, flat_map, ◌&&◌, ⊎_elim, None, Some, zero, suc, get_or, Option, position, is_some}
 use Rattle.std.specs.Prelude.{filter, All, slice_range, ◌==◌, if◌then◌else◌, find, slice_get}
 use Rattle.std.proofs.lemmas.List.Elements.{All-head, All-tail, filter-append, filter_agree, All-contains, filter_passes, Contains-append_left, Contains-append_right, Contains-append_cases}
 use Rattle.std.specs.List.{AllWithin, list_any}
@@ -245,12 +245,3 @@ any_placed p xs d = step (position p xs) refl
     step : (found : Option ℕ) → position p xs ≡ found → list_any p xs ≡ is_some (position p xs)
     step (Some i) e = let at = position-Some p xs i d e in list_any_at p xs i d at.0 at.1 ∙ sym (ap is_some e)
     step None e = list_any_none p xs (λ k d lt. fails_before_first p xs k d (grind (arith, common_steps))) ∙ sym (ap is_some e)
-
--- where all of a part pass and one item behind it, a filter keeps more than the part
-pub passes_more : {X : Type 0} (p : X → Bool) (xs ys : List X) (z : X) (zs : List X) → All (λ y. p y ≡ true) ys → p z ≡ true → length ys < length (filter p (xs ++ (ys ++ (z ∷ zs))))
-passes_more p xs ys z zs all here =
-    let kept = filter p xs in
-    let rest = filter p zs in
-    let front = length-append kept (ys ++ (z ∷ rest)) in
-    let back = length-append ys (z ∷ rest) in
-    rw (filter-append p xs (ys ++ (z ∷ zs)), filter-append p ys (z ∷ zs), filter_all p ys all, here) (omega arith)

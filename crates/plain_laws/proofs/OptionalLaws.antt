@@ -1,5 +1,5 @@
 -- What fields that may be empty tell, and what chains of them give.
-use Rattle.std.proofs.Common.{◌≡◌, Bool, true, refl, false, cond, ◌⊎◌, inl, inr}
+use Rattle.std.proofs.Common.{◌≡◌, Bool, true, refl, false, cond}
 use Rattle.std.specs.Prelude.{Option, Some, None, option_map, is_none, is_some, option_and_then}
 use Rattle.plain_laws.specs.Optional.{filled_and, when}
 use Rattle.std.specs.Option.{option_or}
@@ -34,10 +34,6 @@ pub none_map : {X Y : Type 0} (f : X → Y) (o : Option X) → option_map f o �
 none_map f None e = refl
 none_map f (Some x) e = absurd (cc)
 
--- the first of the checks that follow one another, and the rest of them
-pub none_first : {X : Type 0} (test : Bool) (fault : X) (rest : Option X) → option_or (when test fault) rest ≡ None → (test ≡ false) × (rest ≡ None)
-none_first test fault rest none = let both = none_either (when test fault) rest none in (none_when test fault both.0, both.1)
-
 pub none_given : {X : Type 0} (o : Option X) → is_none o ≡ true → o ≡ None
 none_given None e = refl
 none_given (Some x) e = absurd (cc)
@@ -46,11 +42,6 @@ none_given (Some x) e = absurd (cc)
 pub some_value : {X : Type 0} (o : Option X) → is_some o ≡ true → (x : X) × (o ≡ Some x)
 some_value None e = absurd (cc)
 some_value (Some x) e = (x, refl)
-
--- where a choice of two gives a row, the first does, or it gives none and the second does
-pub option_or-cases : {X : Type 0} (o p : Option X) (x : X) → option_or o p ≡ Some x → (o ≡ Some x) ⊎ ((o ≡ None) × (p ≡ Some x))
-option_or-cases None p x e = inr (refl, e)
-option_or-cases (Some y) p x e = inl e
 
 pub option_or-assoc : {X : Type 0} (a b c : Option X) → option_or (option_or a b) c ≡ option_or a (option_or b c)
 option_or-assoc None b c = refl

@@ -1,8 +1,8 @@
 -- Steps in a row, by number and from the front.
-use Rattle.std.proofs.Common.{◌≡◌, refl, ℕ, zero, suc, ◌<◌, List, arith, ◌≤◌, ◌++◌, length, ◌+◌, [], ◌∷◌, add-one, ◌∙◌}
+use Rattle.std.proofs.Common.{◌≡◌, refl, ℕ, zero, suc, ◌<◌, List, arith, ◌≤◌, ◌++◌, length, ◌+◌, [], ◌∷◌, ◌∙◌}
 use Rattle.std.specs.Prelude.{Option, slice_get, option_and_then, Some, None}
 use Rattle.plain_laws.specs.Steps.{after_first, after}
-use Rattle.plain_laws.proofs.PlaceLaws.{slice_get-append_left, slice_get-push_last}
+use Rattle.plain_laws.proofs.PlaceLaws.{slice_get-append_left}
 use Rattle.plain_laws.proofs.OptionalLaws.{option_and_then-assoc}
 
 -- the first n steps are the same where the lists agree on them
@@ -19,14 +19,6 @@ pub after_first-append : {S R : Type 0} (next : S → R → Option S) (s : S) (r
     after_first next s (rs ++ more) n ≡ after_first next s rs n
 after_first-append next s rs more n le =
     after_first-same next s (rs ++ more) rs n (λ i lt. slice_get-append_left rs more i (omega arith))
-
--- one more step at the end is made after the steps before it
-pub after_first-push : {S R : Type 0} (next : S → R → Option S) (s : S) (rs : List R) (r : R) →
-    after_first next s (rs ++ r ∷ []) (length rs + 1) ≡ option_and_then (λ p. next p r) (after_first next s rs (length rs))
-after_first-push next s rs r =
-    let before = after_first-append next s rs (r ∷ []) (length rs) (omega arith) in
-    let last = slice_get-push_last rs r (length rs) refl in
-    rw (add-one, before, last) refl
 
 -- the first of a list's steps is made before the others
 pub after_first-cons : {S R : Type 0} (next : S → R → Option S) (s : S) (r : R) (rs : List R) (n : ℕ) →
