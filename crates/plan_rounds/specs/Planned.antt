@@ -5,7 +5,8 @@ use Rattle.feed_rows.specs.declared.journeys.Query.{Query}
 use Rattle.feed_rows.specs.FeedRows.{FeedRows}
 use Rattle.feed_rows.specs.JourneyEntries.{IsEntry}
 use Rattle.feed_rows.specs.ParetoTriples.{at_most}
-use Rattle.pareto_front.specs.Fronts.{CoversAll, has_as_good}
+use Rattle.pareto_front.specs.Fronts.{has_as_good}
+use Rattle.plain_laws.specs.Adds.{Adds, OnlyBesides}
 use Rattle.plan_rides.specs.Asked.{Asked}
 use Rattle.round_table.specs.Tables.{TableParts}
 use Rattle.plan_rounds.specs.Searched.{IsTableOf, searched}
@@ -22,10 +23,9 @@ abbrev pub as_good : Entry → Entry → Bool
 as_good a b = at_most a.triple b.triple
 
 -- what had something as good still has, and each of these entries has; what else is there was there before
-pub record AddsEntries (entries old new : List Entry) : Type 0 where
-  pub still : CoversAll as_good old new
-  pub all : All (λ entry. has_as_good as_good new entry ≡ true) entries
-  pub from : All (λ entry. Contains old entry ⊎ Contains entries entry) new
+abbrev pub AddsEntries : List Entry → List Entry → List Entry → Type 0
+AddsEntries entries =
+    Adds (OnlyBesides (Contains entries)) (λ list entry. has_as_good as_good list entry ≡ true) (Contains entries)
 
 -- of each entry of the query some entry of the one list or of the other is at most its triple
 abbrev pub CoversAllBy : FeedRows → Query → List Entry → List Entry → Type 0
