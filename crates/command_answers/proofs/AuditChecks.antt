@@ -1,5 +1,5 @@
 -- What is due for an audit of the folder of one bus, and lines that do the task and that don't.
-use Rattle.std.proofs.Common.{◌≡◌, refl, ap, ℕ, ◌==◌, List, [], ◌∷◌, length, arith}
+use Rattle.std.proofs.Common.{◌≡◌, refl, ap, ◌==◌, [], ◌∷◌, length, arith}
 use Rattle.std.specs.Prelude.{if◌then◌else◌, Ok, Err, Some, None, pos, codes, map}
 use Rattle.std.specs.Fmt.{digits}
 use Rattle.jiff_core.specs.Calendar.{days_from_civil, day_count, days_of_years, days_of_months}

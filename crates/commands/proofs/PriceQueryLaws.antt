@@ -1,7 +1,7 @@
 -- What is read from words, and what is not, taken apart: the rides of a query of prices are rides of the feed, each caught
 -- from the one before, and the fault tells the first that isn't.
 use Rattle.std.proofs.Common.{◌≡◌, refl, sym, ◌∙◌, ap, subst, ℕ, ◌+◌, ◌-◌, ◌<◌, ◌⊎◌, inl, inr, Bool, true, false, not, List, length, get_or, arith}
-use Rattle.std.specs.Prelude.{Option, Some, None, Result, Ok, Err, is_none, option_map, slice_get, IsTrue, All, ℤ}
+use Rattle.std.specs.Prelude.{Option, Some, None, Result, Ok, Err, is_none, slice_get, IsTrue, All, ℤ}
 use Rattle.std.proofs.lemmas.Bool.{not-false}
 use Rattle.std.proofs.lemmas.Option.{same_Some, none-some, option_and_then_some, slice_get-get_or}
 use Rattle.transit_base.specs.declared.numbers.TripId.{TripId}
@@ -15,14 +15,13 @@ use Rattle.feed_rows.specs.FeedRows.{FeedRows}
 use Rattle.feed_rows.specs.Rides.{is_ride}
 use Rattle.feed_rows.specs.Journeys.{catches_next}
 use Rattle.feed_rows.specs.RideWords.{RideWord}
-use Rattle.feed_rows.specs.RowsById.{find_trip, has_trip_id}
+use Rattle.feed_rows.specs.RowsById.{find_trip}
 use Rattle.commands.specs.Queries.{chosen_buyer}
 use Rattle.commands.specs.Requests.{PriceRequest}
 use Rattle.feed_rows.specs.RowsById.{call_position}
 use Rattle.commands.specs.PriceQueries.{PriceQuery, named_shift, named_ride, named_rides, first_missed, unless_missed, price_query_of}
-use Rattle.feed_laws.proofs.RowIdLaws.{trip_within}
 use Rattle.feed_rows.specs.PriceTexts.{AreJoinedRides}
-use Rattle.plain_laws.proofs.Laws.{collect_below_tells, collect_below_some, IsCollected, find_below_cases, find_below_tells, IsFirst, NonePass}
+use Rattle.plain_laws.proofs.Laws.{collect_below_tells, collect_below_some, IsCollected, find_below_cases, IsFirst, NonePass}
 
 -- the ride that the parts of a word make
 abbrev ride_named : RideWord → TripId → ℤ → ℕ → ℕ → Ride

@@ -1,5 +1,5 @@
 -- What the words of the commands ask for, or their first fault.
-use Rattle.std.specs.Prelude.{ℕ, nat_le, if◌then◌else◌, List, [], ◌∷◌, find, ok_or, Option, Result, Ok, Err, ℤ, pos, ◌+ℤ◌, int_le, ◌&&◌, bytes_eq}
+use Rattle.std.specs.Prelude.{ℕ, if◌then◌else◌, List, [], ◌∷◌, find, ok_or, Option, Result, Ok, Err, ℤ, pos, ◌+ℤ◌, int_le, ◌&&◌, bytes_eq}
 use Rattle.feed_rows.specs.Limits.{most_rides, most_window, usual_window}
 use Rattle.transit_base.specs.Moments.{moment_at}
 use Rattle.plain_laws.specs.Plain.{given, when}

@@ -1,10 +1,10 @@
 -- The rides that the words of `price` name over a feed.
 use Rattle.std.specs.Prelude.{ℕ, ◌+◌, ◌-◌, ◌==◌, not, List, length, Option, Some, None, Result, Ok, Err, ℤ, pos, ◌-ℤ◌}
 use Rattle.transit_base.specs.declared.numbers.TripId.{TripId}
-use Rattle.plain_laws.specs.Plain.{when, at_and, find_below, given}
+use Rattle.plain_laws.specs.Plain.{when, find_below, given}
 use Rattle.commands.specs.NumberedItems.{read_each}
 use Rattle.feed_rows.specs.FeedRows.{FeedRows}
-use Rattle.feed_rows.specs.Calls.{calls_of, first_departure}
+use Rattle.feed_rows.specs.Calls.{first_departure}
 use Rattle.feed_rows.specs.Shifts.{has_frequencies}
 use Rattle.feed_rows.specs.Rides.{is_ride}
 use Rattle.feed_rows.specs.Journeys.{catches_next}

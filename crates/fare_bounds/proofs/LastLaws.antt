@@ -1,6 +1,6 @@
 -- Past the last change to a leg of some groups, none is arranged to such a leg.
-use Rattle.std.proofs.Common.{◌≡◌, refl, sym, ◌∙◌, ap, subst, ℕ, ◌≤◌, Bool, true, false, List, arith}
-use Rattle.std.specs.Prelude.{if◌then◌else◌, nat_le, Contains, Option, Some, None, is_none, slice_get, ℤ, pos, ◌≤ℤ◌, ◌<ℤ◌}
+use Rattle.std.proofs.Common.{◌≡◌, refl, sym, ◌∙◌, subst, ℕ, ◌≤◌, Bool, true, false, List, arith}
+use Rattle.std.specs.Prelude.{if◌then◌else◌, nat_le, Contains, Option, Some, None, is_none, slice_get, ℤ, ◌≤ℤ◌, ◌<ℤ◌}
 use Rattle.std.specs.List.{list_any}
 use Rattle.std.specs.Option.{unwrap_or, ForSome}
 use Rattle.std.proofs.lemmas.Bool.{false_from_ne_true}
@@ -14,12 +14,10 @@ use Rattle.feed_rows.specs.declared.states.FareState.{FareState}
 use Rattle.feed_rows.specs.FeedRows.{FeedRows}
 use Rattle.feed_rows.specs.FareSteps.{asked_after, is_arranged_after}
 use Rattle.feed_rows.specs.TransferRules.{FareLeg, AskedChange, is_selected, same_group}
-use Rattle.plain_laws.specs.Plain.{empty_or}
 use Rattle.plain_laws.proofs.Laws.{filled_and-true, list_any_tells, slice_get-Contains}
-use Rattle.fare_bounds.specs.Amounts.{row_place}
-use Rattle.fare_bounds.specs.LastChanges.{AreLastChanges, AreLongestTo, IsSettled, can_match_one, endless, last_after, lasting, long_ago}
+use Rattle.fare_bounds.specs.LastChanges.{AreLastChanges, AreLongestTo, can_match_one, endless, last_after, lasting, long_ago}
 use Rattle.fare_bounds.specs.Levels.{CanMatch}
-use Rattle.fare_bounds.specs.Limits.{limit_at, seconds_of, longest_limit, late_by}
+use Rattle.fare_bounds.specs.Limits.{seconds_of, longest_limit, late_by}
 use Rattle.fare_bounds.proofs.LimitLaws.{late_row, place_within}
 use Rattle.fare_bounds.proofs.StepLaws.{asked_tells, selected_matches}
 

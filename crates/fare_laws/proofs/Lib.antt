@@ -6,3 +6,4 @@ pub mod LeadLaws
 pub mod StartLaws
 pub mod LongerLaws
 pub mod FloorLaws
+pub mod SmallLaws

@@ -1,1 +1,2 @@
 pub mod BareMoves
+pub mod SmallMoves

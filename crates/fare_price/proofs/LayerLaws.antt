@@ -1,37 +1,36 @@
 -- What a search keeps true from leg to leg, and that the cheapest of its ways is the least price.
-use Rattle.std.proofs.Common.{◌≡◌, refl, sym, ◌∙◌, ap, subst, ℕ, zero, suc, ◌+◌, ◌-◌, ◌*◌, ◌^◌, ◌<◌, ◌≤◌, ◌⊎◌, inl, inr, ⊎_elim, Bool, true, false, ◌||◌, List, [], ◌∷◌, ◌++◌, length, map, take, All, Contains, arith}
-use Rattle.std.specs.Prelude.{Option, Some, None, is_none, ℤ, pos, ◌+ℤ◌, ◌≤ℤ◌, nat_abs, slice_get, if◌then◌else◌}
+use Rattle.std.proofs.Common.{◌≡◌, refl, sym, ◌∙◌, ap, subst, ℕ, zero, suc, ◌+◌, ◌-◌, ◌*◌, ◌^◌, ◌<◌, ◌≤◌, ◌⊎◌, inl, inr, ⊎_elim, Bool, true, false, List, [], ◌∷◌, ◌++◌, length, map, take, All, Contains, arith}
+use Rattle.std.specs.Prelude.{Option, Some, None, ℤ, pos, ◌+ℤ◌, ◌≤ℤ◌, nat_abs, slice_get, if◌then◌else◌}
 use Rattle.std.specs.Option.{option_map_or}
 use Rattle.std.proofs.lemmas.Int.{ints}
 use Rattle.std.proofs.lemmas.Option.{same_Some, slice_get_within, cond_some}
 use Rattle.std.proofs.lemmas.List.Elements.{All-contains}
-use Rattle.transit_base.specs.declared.numbers.ProductRowId.{ProductRowId}
 use Rattle.transit_base.specs.declared.moments.Money.{Money}
 use Rattle.feed_rows.specs.declared.journeys.Buyer.{Buyer}
-use Rattle.feed_rows.specs.declared.fares.ChangeChoice.{ChangeChoice}
 use Rattle.feed_rows.specs.declared.fares.Choice.{Choice}
 use Rattle.feed_rows.specs.declared.journeys.LegFacts.{LegFacts}
-use Rattle.feed_rows.specs.declared.rows.ProductRow.{ProductRow}
 use Rattle.feed_rows.specs.declared.states.FareState.{FareState}
 use Rattle.feed_rows.specs.declared.states.Move.{Move}
 use Rattle.feed_rows.specs.FeedRows.{FeedRows}
 use Rattle.feed_rows.specs.SoundFeed.{IsSoundFeed}
-use Rattle.feed_rows.specs.FareChoices.{chosen_leg, is_fare_choice}
+use Rattle.feed_rows.specs.FareChoices.{is_fare_choice}
 use Rattle.feed_rows.specs.FareExtensions.{extended, Extends}
-use Rattle.feed_rows.specs.FareSteps.{place_kind, place_charge, frees_first, frees_next, leg_taken, place_taken, move_of_first, move_of_next, move_after}
+use Rattle.feed_rows.specs.FareSteps.{move_after}
 use Rattle.feed_rows.specs.FareStates.{held_amount, paid_amount, fare_state}
-use Rattle.feed_rows.specs.FareSums.{amount_of, fare_sum}
+use Rattle.feed_rows.specs.FareSums.{fare_sum}
 use Rattle.feed_rows.specs.LeastPrices.{IsLeastPriceOfLegs, AreUncoveredLegs}
 use Rattle.plain_laws.specs.Plain.{when}
-use Rattle.plain_laws.proofs.Laws.{All-slice_get, chain_gives, slice_get-append_left, Contains-slice_get, slice_get-Contains, Contains-map, map-tells, list_any_tells, list_any-place, All-from}
+use Rattle.plain_laws.proofs.Laws.{slice_get-append_left, slice_get-append_right, Contains-slice_get, slice_get-Contains, Contains-map, map-tells, list_any_tells, list_any-place, All-from}
 use Rattle.feed_laws.proofs.StandLaws.{places_of_paid}
 use Rattle.fare_laws.proofs.LongerLaws.{IsMoveAfter, extends_by, made_by}
+use Rattle.fare_laws.specs.SmallMoves.{IsSmall}
 use Rattle.fare_laws.proofs.LeadLaws.{leads_too}
+use Rattle.fare_laws.proofs.SmallLaws.{move_small}
 use Rattle.fare_laws.proofs.StartLaws.{none_paid as no_leg_paid}
 use Rattle.label_bag.specs.Bags.{covers, Gathers}
 use Rattle.fare_automaton.specs.Fewest.{AreEnoughMoves}
 use Rattle.fare_price.specs.declared.ways.Way.{Way}
-use Rattle.fare_price.specs.Ways.{cost, is_as_good, IsBelow, way_by, IsSmall, IsBounded, IsMadeAfter, AddsWays, AreFirstWays, IsAfterOne, AreNextWays, no_choice, choice_of, IsTraced, IsStateOf, IsReal, HasNoDearer, AreWaysOf}
+use Rattle.fare_price.specs.Ways.{cost, is_as_good, IsBelow, way_by, IsBounded, IsMadeAfter, AddsWays, AreFirstWays, IsAfterOne, AreNextWays, no_choice, choice_of, IsTraced, IsStateOf, IsReal, HasNoDearer, AreWaysOf}
 use Rattle.fare_price.specs.WayLaws.{is_as_good-tells, is_as_good-from, below_trans}
 use Rattle.fare_price.proofs.GatherLaws.{take_next}
 
@@ -60,57 +59,6 @@ covers_above ways a b covered below =
     covered_by ways has.member b has.is_in (below_trans has.member a b has.below below)
 
 -- ---- moves
-
--- an amount of a sound feed
-low_amount : (feed : FeedRows) → IsSoundFeed feed → (row : ProductRowId) → nat_abs (amount_of feed row) ≤ 10 ^ 12
-unfolding amount_of
-low_amount feed sound row = by (slice_get feed.products row.0) refl
-  where
-    by : (o : Option ProductRow) → slice_get feed.products row.0 ≡ o → nat_abs (option_map_or (λ r. r.amount.0) o (pos 0)) ≤ 10 ^ 12
-    by None is = omega arith
-    by (Some r) is = All-slice_get (λ (r : ProductRow). nat_abs r.amount.0 ≤ 10 ^ 12) feed.products row.0 r is sound.products.amounts
-
-low_charge : (feed : FeedRows) → IsSoundFeed feed → (place : Option ChangeChoice) → nat_abs (place_charge feed place) ≤ 10 ^ 12
-low_charge feed sound None = omega arith
-low_charge feed sound (Some pick) = by pick.product
-  where
-    by : (o : Option ProductRowId) → nat_abs (option_map_or (amount_of feed) o (pos 0)) ≤ 10 ^ 12
-    by None = omega arith
-    by (Some row) = low_amount feed sound row
-
-paid_small : (b c : Bool) (held charge amount : ℤ) → nat_abs held ≤ 10 ^ 12 → nat_abs charge ≤ 10 ^ 12 → nat_abs amount ≤ 10 ^ 12 →
-    nat_abs (pos 0 +ℤ (if b then pos 0 else held) +ℤ charge +ℤ (if c then pos 0 else amount)) ≤ 3 * 10 ^ 12
-paid_small true true held charge amount h x a = omega (arith, ints, h, x, a)
-paid_small true false held charge amount h x a = omega (arith, ints, h, x, a)
-paid_small false true held charge amount h x a = omega (arith, ints, h, x, a)
-paid_small false false held charge amount h x a = omega (arith, ints, h, x, a)
-
-held_small : (b : Bool) (amount : ℤ) → nat_abs amount ≤ 10 ^ 12 → nat_abs (if b then amount else pos 0) ≤ 10 ^ 12
-held_small true amount low = low
-held_small false amount low = omega arith
-
--- a move that there is adds no more than one leg can cost
-pub move_small : (feed : FeedRows) (buyer : Buyer) (state : Option FareState) (held : ℤ) (leg : LegFacts) (move : Move) →
-    IsSoundFeed feed → nat_abs held ≤ 10 ^ 12 → move_after feed buyer state held leg move ≡ Some move → IsSmall move
-unfolding move_of_first move_of_next
-move_small feed buyer None held leg move sound low is =
-    let first = chain_gives _ (chosen_leg feed leg (leg_taken move)) move is in
-    let made = (cond_some _ _ _ first.gives).1 in
-    record {
-      paid = subst (λ (m : Move). nat_abs m.paid.0 ≤ 3 * 10 ^ 12) made (omega arith);
-      held = subst (λ (m : Move). nat_abs m.held.0 ≤ 10 ^ 12) made (low_amount feed sound move.product);
-    }
-move_small feed buyer (Some state) held leg move sound low is =
-    let next = chain_gives _ (chosen_leg feed leg (leg_taken move)) move is in
-    let made = (cond_some _ _ _ next.gives).1 in
-    let kind = place_kind feed (place_taken move) in
-    record {
-      paid = subst (λ (m : Move). nat_abs m.paid.0 ≤ 3 * 10 ^ 12) made
-          (paid_small (frees_first kind) (is_none kind || frees_next kind) held (place_charge feed (place_taken move)) (amount_of feed move.product)
-          low (low_charge feed sound (place_taken move)) (low_amount feed sound move.product));
-      held = subst (λ (m : Move). nat_abs m.held.0 ≤ 10 ^ 12) made
-          (held_small (is_none kind) (amount_of feed move.product) (low_amount feed sound move.product));
-    }
 
 pub moves_small : (feed : FeedRows) (buyer : Buyer) (state : Option FareState) (held : ℤ) (leg : LegFacts) (moves : List Move) →
     IsSoundFeed feed → nat_abs held ≤ 10 ^ 12 → AreEnoughMoves feed buyer state held leg moves → All IsSmall moves
@@ -208,12 +156,6 @@ next_more feed buyer leg base ways n last old new at before adds = record {
     by way (inr made) = record { place = n; last = last; at = at; made = made }
 
 -- ---- steps that are put behind others
-
-slice_get-append_right : {X : Type 0} (xs ys : List X) (j : ℕ) → slice_get (xs ++ ys) (length xs + j) ≡ slice_get ys j
-slice_get-append_right {X} [] ys j = let same : length {A = X} [] + j ≡ j = omega arith in ap (slice_get ys) same
-slice_get-append_right (x ∷ xs) ys j =
-    let next : length (x ∷ xs) + j ≡ suc (length xs + j) = omega arith in
-    ap (slice_get (x ∷ (xs ++ ys))) next ∙ slice_get-append_right xs ys j
 
 still_there : (steps more : List Way) (i : ℕ) (way : Way) → slice_get steps i ≡ Some way → slice_get (steps ++ more) i ≡ Some way
 still_there steps more i way is = slice_get-append_left steps more i (slice_get_within steps i way is) ∙ is

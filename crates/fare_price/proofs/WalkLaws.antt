@@ -30,10 +30,10 @@ use Rattle.fare_laws.specs.BareMoves.{bare}
 use Rattle.fare_laws.proofs.ExtensionLaws.{same_choice, same_head}
 use Rattle.fare_laws.proofs.LongerLaws.{IsMoveAfter, extends_by, IsMadeBy, made_by}
 use Rattle.fare_price.specs.declared.checks.Walked.{Walked}
-use Rattle.fare_price.specs.Ways.{IsSmall}
+use Rattle.fare_laws.specs.SmallMoves.{IsSmall}
 use Rattle.fare_price.specs.Walks.{at_start, walked_after, IsPlaceBefore, front, IsPaidUpTo}
 use Rattle.fare_price.proofs.GatherLaws.{take_next}
-use Rattle.fare_price.proofs.LayerLaws.{move_small}
+use Rattle.fare_laws.proofs.SmallLaws.{move_small}
 
 -- ---- moves that take the same rows
 

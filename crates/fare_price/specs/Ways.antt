@@ -39,11 +39,6 @@ is_as_good a b = int_le a.paid.0 b.paid.0 && int_le (cost a) (cost b) && same_pa
 abbrev pub way_by : ℤ → ℕ → Move → Way
 way_by paid before move = record { paid = record { 0 = paid +ℤ move.paid.0 }; step = move; before = before }
 
--- the move adds no more than one leg and the change to it can cost
-pub record IsSmall (move : Move) : Type 0 where
-  pub paid : nat_abs move.paid.0 ≤ 3 * 10 ^ 12
-  pub held : nat_abs move.held.0 ≤ 10 ^ 12
-
 -- what was paid for n legs lies within n times that
 pub record IsBounded (n : ℕ) (way : Way) : Type 0 where
   pub paid : nat_abs way.paid.0 ≤ n * (3 * 10 ^ 12)

@@ -2,7 +2,7 @@
 ghost use Rattle.std.specs.Prelude.{◌≡◌, ◌^◌, ◌-◌, ◌+ℤ◌, ◌≤◌, ◌==◌, ◌&&◌, length, nat_abs, option_map};
 ghost use Rattle.feed_rows.specs.FareSums.{fare_price};
 ghost use Rattle.fare_price.specs.Walks.{walked_after, IsPlaceBefore};
-ghost use Rattle.fare_price.specs.Ways.{IsSmall};
+ghost use Rattle.fare_laws.specs.SmallMoves.{IsSmall};
 
 use crate::fares::Fares;
 use fare_automaton::bare;

@@ -2,7 +2,8 @@
 ghost use Rattle.std.specs.Prelude.{◌≡◌, ◌<◌, ◌≤◌, ◌^◌, [], ◌∷◌, ◌+ℤ◌, length, map, nat_abs, slice_get, Some, All, OnOk};
 ghost use Rattle.label_bag.specs.Bags.{Gathers};
 ghost use Rattle.feed_rows.specs.SameStates.{same_parts};
-ghost use Rattle.fare_price.specs.Ways.{cost, is_as_good, way_by, IsSmall};
+ghost use Rattle.fare_laws.specs.SmallMoves.{IsSmall};
+ghost use Rattle.fare_price.specs.Ways.{cost, is_as_good, way_by};
 
 use feed_rows::{FareState, Move};
 use label_bag::{Bag, ListBag};

@@ -1,6 +1,6 @@
 -- Files of a folder that are read one after another: what is answered at each step.
-use Rattle.std.proofs.Common.{◌≡◌, refl, ◌∙◌, ℕ, ◌<◌, ◌≤◌, List, replicate, None, sym, arith}
-use Rattle.std.specs.Prelude.{map, Result, Ok, Err}
+use Rattle.std.proofs.Common.{◌≡◌, refl, ◌∙◌, ◌<◌, ◌≤◌, List, replicate, None, sym, arith}
+use Rattle.std.specs.Prelude.{map, Result}
 use Rattle.std.proofs.lemmas.List.{get_or-replicate}
 use Rattle.std.proofs.lemmas.Option.{unwrap_or-slice_get}
 use Rattle.plain_laws.specs.Plain.{first_in}
@@ -21,7 +21,7 @@ use Rattle.folder_io.proofs.PlaceLaws.{inside}
 use Rattle.feed_text.specs.declared.errors.TextError.{TextError}
 use Rattle.feed_text.specs.declared.errors.TextError.TheVariants as text
 use Rattle.feed_text.specs.TextErrors.{IsErrorOf}
-use Rattle.feed_tables.specs.RowNumbers.{TableOf, read_of, first_files, other_files}
+use Rattle.feed_tables.specs.RowNumbers.{TableOf, read_of, first_files}
 use Rattle.feed_tables.specs.IdColumns.{call_ids}
 use Rattle.feed_tables.specs.KeptTables.{tables_with}
 use Rattle.feed_tables.specs.declared.ids.CallIds.{CallIds}

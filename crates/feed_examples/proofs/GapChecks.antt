@@ -1,10 +1,9 @@
 -- Worked examples of the pairs of stops without a fare and of the leg rules that no ride selects.
 use Rattle.std.proofs.Common.{◌≡◌, refl, ℕ, true, List, [], ◌∷◌}
-use Rattle.std.specs.Prelude.{Some, ℤ, pos, codes}
+use Rattle.std.specs.Prelude.{Some, pos, codes}
 use Rattle.transit_base.specs.declared.numbers.RuleId.{RuleId}
 use Rattle.feed_rows.specs.declared.journeys.Buyer.{Buyer}
 use Rattle.feed_rows.specs.declared.journeys.Pair.{Pair}
-use Rattle.feed_rows.specs.declared.rows.ProductRow.{ProductRow}
 use Rattle.feed_rows.specs.FeedRows.{FeedRows}
 use Rattle.feed_rows.specs.ServiceDays.{is_active}
 use Rattle.feed_rows.specs.Calls.{call_at, calls_of}

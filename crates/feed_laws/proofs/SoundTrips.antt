@@ -1,8 +1,8 @@
 -- The trips of a feed without a fault: their first and last rows have times, and their times don't fall.
-use Rattle.std.proofs.Common.{◌≡◌, refl, sym, ◌∙◌, subst, ℕ, ◌-◌, ◌<◌, ◌≤◌, ◌⊎◌, inl, inr, true, false, ◌==◌, List, [], ◌∷◌, length, get_or, filter, All, Contains, arith, Option, Some, None, IsSome}
+use Rattle.std.proofs.Common.{◌≡◌, refl, sym, ◌∙◌, subst, ℕ, ◌-◌, ◌<◌, ◌≤◌, ◌⊎◌, inl, inr, true, ◌==◌, List, [], ◌∷◌, length, get_or, filter, All, Contains, arith, Option, Some, None, IsSome}
 use Rattle.std.specs.Prelude.{slice_get, IfSome}
 use Rattle.std.specs.Option.{ForSome}
-use Rattle.std.proofs.lemmas.Bool.{cases_eq, cases_Bool, eqb-true, eq-eqb}
+use Rattle.std.proofs.lemmas.Bool.{cases_eq, eqb-true, eq-eqb}
 use Rattle.std.proofs.lemmas.Option.{option_and_then_some, get_or_from_slice_get, slice_get_within, slice_get-get_or}
 use Rattle.std.proofs.lemmas.List.Elements.{All-weaker, All-contains, All-contains_itself, filter_passes, Contains-get_or}
 use Rattle.std.proofs.lemmas.List.Sorted.{All-permutation}
@@ -10,7 +10,7 @@ use Rattle.transit_base.specs.Limits.{most_time}
 use Rattle.transit_base.specs.declared.numbers.TripId.{TripId}
 use Rattle.feed_rows.specs.declared.rows.StopTimeRow.{StopTimeRow}
 use Rattle.feed_rows.specs.FeedRows.{FeedRows}
-use Rattle.feed_rows.specs.Calls.{first_time, last_time, is_timed, trip_stop_times}
+use Rattle.feed_rows.specs.Calls.{first_time, last_time, trip_stop_times}
 use Rattle.feed_rows.specs.TimedTrips.{last_at, is_timed_at, HasTimedEnds, DoTimesRise, DoTimesEndBy, IsTimedTrip}
 use Rattle.feed_rows.specs.SoundTimetable.{AreSoundStopTimes, AreOrderedCalls, IsFirstCall, IsLastCall, EndsBy}
 use Rattle.feed_rows.specs.SoundFeed.{IsSoundFeed}

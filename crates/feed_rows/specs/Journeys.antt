@@ -11,6 +11,14 @@ use Rattle.feed_rows.specs.Rides.{is_ride, ride_facts}
 use Rattle.feed_rows.specs.StopLinks.{link, stop_set}
 use Rattle.plain_laws.specs.Plain.{filled_and, when}
 
+-- a feed, and a query over it
+pub record Asked : Type 0 where
+  pub feed : FeedRows
+  pub query : Query
+
+abbrev pub asked : FeedRows → Query → Asked
+asked feed query = record { feed = feed; query = query }
+
 -- the stop is one of those that this stop stands for
 abbrev pub stands_for : FeedRows → StopId → StopId → Bool
 stands_for feed stop member = list_any (λ s. s.0 == member.0) (stop_set feed stop)

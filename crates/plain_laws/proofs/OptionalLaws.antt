@@ -3,6 +3,7 @@ use Rattle.std.proofs.Common.{◌≡◌, Bool, true, refl, false, cond}
 use Rattle.std.specs.Prelude.{Option, Some, None, option_map, is_none, is_some, option_and_then}
 use Rattle.plain_laws.specs.Optional.{filled_and, when}
 use Rattle.std.specs.Option.{option_or}
+use Rattle.std.proofs.lemmas.Option.{none-some, same_Some}
 
 -- a filled field that passes a test
 pub record Filled {X : Type 0} (o : Option X) (test : X → Bool) : Type 0 where
@@ -67,3 +68,9 @@ pub record ChainGives {A B : Type 0} (f : A → Option B) (o : Option A) (y : B)
 pub chain_gives : {A B : Type 0} (f : A → Option B) (o : Option A) (y : B) → option_and_then f o ≡ Some y → ChainGives f o y
 chain_gives f None y e = absurd (cc)
 chain_gives f (Some x) y e = record { value = x; is = refl; gives = e }
+
+-- what a mapped option tells
+pub mapped_tells : {X Y : Type 0} (f : X → Y) (o : Option X) (y : Y) → option_map f o ≡ Some y →
+    (x : X) × (o ≡ Some x) × (f x ≡ y)
+mapped_tells f None y e = absurd (none-some y e)
+mapped_tells f (Some x) y e = (x, refl, same_Some _ _ e)

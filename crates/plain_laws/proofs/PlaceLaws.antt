@@ -30,6 +30,26 @@ slice_get-append_left [] ys i lt = absurd (omega arith)
 slice_get-append_left (x ∷ xs) ys zero lt = refl
 slice_get-append_left (x ∷ xs) ys (suc i) lt = slice_get-append_left xs ys i (omega arith)
 
+-- an item past the first list
+pub slice_get-append_right : {X : Type 0} (xs ys : List X) (k : ℕ) → slice_get (xs ++ ys) (length xs + k) ≡ slice_get ys k
+slice_get-append_right [] ys k = ap (slice_get ys) (omega arith)
+slice_get-append_right (x ∷ xs) ys k =
+    let next : length (x ∷ xs) + k ≡ suc (length xs + k) = omega arith in
+    ap (slice_get (x ∷ (xs ++ ys))) next ∙ slice_get-append_right xs ys k
+
+-- no more than n items are the first n
+pub take_short : {X : Type 0} (n : ℕ) (xs : List X) → length (take n xs) ≤ n
+take_short zero xs = omega arith
+take_short (suc n) [] = omega arith
+take_short (suc n) (x ∷ xs) = let rest = take_short n xs in omega arith
+
+-- an item among the first n
+pub slice_get-take : {X : Type 0} (n : ℕ) (xs : List X) (i : ℕ) → i < n → slice_get (take n xs) i ≡ slice_get xs i
+slice_get-take zero xs i lt = absurd (omega arith)
+slice_get-take (suc n) [] i lt = refl
+slice_get-take (suc n) (x ∷ xs) zero lt = refl
+slice_get-take (suc n) (x ∷ xs) (suc i) lt = slice_get-take n xs i (omega arith)
+
 -- the choices of the legs and changes before the new ones stay
 pub slice_get-old_item : {X : Type 0} (xs ys : List X) (x : X) (i : ℕ) → ys ≡ xs ++ x ∷ [] → i < length xs → slice_get xs i ≡ slice_get ys i
 slice_get-old_item xs ys x i e lt = rw e (sym (slice_get-append_left xs (x ∷ []) i lt))

@@ -31,7 +31,7 @@ use Rattle.plain_laws.proofs.Laws.{Filled, AllPairs-joined_below, AllPairs-picks
 use Rattle.plan_patterns.specs.declared.runs.Run.{Run}
 use Rattle.plan_patterns.specs.HeldRuns.{active_days, day_after_first, days_of, ends_before, first_day, has_ended, held_before, held_of_trip, held_of_trips, held_on_day, held_on_days, run_with, trip_at}
 use Rattle.plan_patterns.specs.Runs.{AreHeld, AreTripsOf, IsHeld, IsHeldOf, IsKnown, alights_in_time, boards_in_time, has_ride, is_boarded, moment_of, ride_by, same_run}
-use Rattle.plan_patterns.specs.Spans.{IsUsualSpan, seconds_of}
+use Rattle.plan_patterns.specs.Spans.{IsUsualSpan}
 
 -- one number more is looked at
 pub picks_more : {X : Type 0} (n : ℕ) (test : ℕ → Bool) (f : ℕ → X) (old now next : List X) (x : X) (passes : Bool) →

@@ -42,7 +42,7 @@ use Rattle.pareto_front.specs.Fronts.{CoversAll, IsFront}
 use Rattle.plan_rides.specs.declared.caught.CaughtRide.{CaughtRide}
 use Rattle.plan_rides.specs.InTime.{next_in_time, if_in_time, deadline, IsRight, IsWithinWindow, HasCaught}
 use Rattle.plan_plain.specs.Paths.{Taken, no_ride, with_ride}
-use Rattle.plan_rides.specs.Asked.{arrival_in_time}
+use Rattle.plan_rides.specs.InTime.{arrival_in_time}
 use Rattle.plan_rides.specs.Boarding.{IsAmong, MayRide}
 use Rattle.plan_rides.proofs.ArrivalLaws.{arrives_in_time}
 use Rattle.plan_rides.proofs.MarkLaws.{stands_for_member, member_of_stands_for, among_more}

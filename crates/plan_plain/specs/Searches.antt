@@ -17,7 +17,7 @@ use Rattle.feed_rows.specs.ParetoTriples.{at_most}
 use Rattle.fare_price.specs.declared.Priced.{Priced}
 use Rattle.fare_automaton.specs.Terms.{terms}
 use Rattle.pareto_front.specs.Fronts.{has_as_good}
-use Rattle.plan_rides.specs.Asked.{arrival_in_time}
+use Rattle.plan_rides.specs.InTime.{arrival_in_time}
 use Rattle.plan_rides.specs.Boarding.{IsAmong}
 use Rattle.plan_rides.specs.InTime.{next_in_time, IsWithinWindow}
 use Rattle.plan_plain.specs.Paths.{Taken}

@@ -12,7 +12,7 @@ ghost use Rattle.fare_timeframes.specs.BuiltTimeframes.{AreTimeframesOf};
 ghost use Rattle.feed_timetable.specs.Standings.{stand_of};
 ghost use Rattle.plan_plain.specs.Paths.{no_ride, with_ride};
 ghost use Rattle.plan_plain.specs.Searches.{AddsEnd, IsCheapest, IsEarliestEnd, HasRides, GoesOn, Gains, StartsAt, IsSearched};
-ghost use Rattle.plan_rides.specs.Asked.{asked};
+ghost use Rattle.feed_rows.specs.Journeys.{asked};
 ghost use Rattle.plan_rides.specs.InTime.{HasCaught, IsRight, IsUsualQuery, IsWithinWindow};
 ghost use Rattle.plan_rides.specs.Scopes.{IsInScope};
 ghost use Rattle.transit_base.specs.declared.moments.Moment.{Moment};
@@ -46,7 +46,7 @@ struct Search<'s> {
 
 impl<'s> Model for Search<'s> {
     ghost use Rattle.fare_timeframes.specs.BuiltTimeframes.{AreTimeframesOf};
-    ghost use Rattle.plan_rides.specs.Asked.{Asked};
+    ghost use Rattle.feed_rows.specs.Journeys.{Asked};
 
     ghost Value = { Asked };
 

@@ -9,7 +9,7 @@ use Rattle.feed_rows.specs.FeedRows.{FeedRows}
 use Rattle.feed_rows.specs.JourneyStands.{Stand, end_arrival}
 use Rattle.plain_laws.specs.Plain.{when}
 use Rattle.plain_laws.proofs.Laws.{chain_gives, le-int_le}
-use Rattle.plan_rides.specs.Asked.{arrival_in_time}
+use Rattle.plan_rides.specs.InTime.{arrival_in_time}
 use Rattle.plan_rides.specs.InTime.{deadline}
 
 -- an arrival in time is an arrival, and in time

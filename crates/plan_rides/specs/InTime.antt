@@ -1,12 +1,13 @@
 -- Rides that are caught and end within a query's window.
 use Rattle.std.specs.Prelude.{◌≡◌, ◌≤◌, Option, Some, Contains, List, ℤ, pos, negsuc, ◌+ℤ◌, ◌≤ℤ◌, int_le, option_and_then}
 use Rattle.transit_base.specs.Moments.{moment_at}
+use Rattle.transit_base.specs.declared.numbers.StopId.{StopId}
 use Rattle.feed_rows.specs.declared.journeys.Call.{Call}
 use Rattle.feed_rows.specs.declared.journeys.Query.{Query}
 use Rattle.feed_rows.specs.declared.journeys.Ride.{Ride}
 use Rattle.feed_rows.specs.FeedRows.{FeedRows}
 use Rattle.feed_rows.specs.Limits.{most_rides, most_window}
-use Rattle.feed_rows.specs.JourneyStands.{Stand, stand_at_end, next_stand}
+use Rattle.feed_rows.specs.JourneyStands.{Stand, end_arrival, stand_at_end, next_stand}
 use Rattle.feed_rows.specs.Rides.{ride_facts}
 use Rattle.plain_laws.specs.Plain.{when}
 use Rattle.plan_rides.specs.Runs.{RunOf}
@@ -23,6 +24,10 @@ if_in_time query stand = when (int_le stand.at (deadline query)) stand
 -- where one stands after the ride; none where it is no ride of the feed, is not caught, or ends past the window
 unfoldable pub next_in_time : FeedRows → Query → Stand → Ride → Option Stand
 next_in_time feed query stand ride = option_and_then (if_in_time query) (next_stand feed query stand ride)
+
+-- the arrival at the last stop from where one stands after all rides, within the window
+unfoldable pub arrival_in_time : FeedRows → Query → Stand → StopId → Option ℤ
+arrival_in_time feed query stand last = option_and_then (λ arrival. when (int_le arrival (deadline query)) arrival) (end_arrival feed query stand last)
 
 -- the moment of departure lies in the years 1900 to 3000, and the rides and the window are at most the greatest that a
 -- plan may say

@@ -1,4 +1,3 @@
-pub mod Asked
 pub mod Boarding
 pub mod Cutoffs
 pub mod Departures

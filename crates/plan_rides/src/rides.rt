@@ -3,7 +3,8 @@ ghost use Rattle.std.specs.Prelude.{◌≡◌, All, IfOk, option_map};
 ghost use Rattle.feed_rows.specs.JourneyStands.{first_stand};
 ghost use Rattle.feed_rows.specs.SoundFeed.{IsSoundFeed};
 ghost use Rattle.feed_timetable.specs.Standings.{stand_of};
-ghost use Rattle.plan_rides.specs.Asked.{asked, arrival_in_time};
+ghost use Rattle.feed_rows.specs.Journeys.{asked};
+ghost use Rattle.plan_rides.specs.InTime.{arrival_in_time};
 ghost use Rattle.plan_rides.specs.Boarding.{MayRide};
 ghost use Rattle.plan_rides.specs.InTime.{IsUsualQuery, IsWithinWindow, HasCaught, IsRight};
 ghost use Rattle.plan_rides.specs.Scopes.{IsInScope};
@@ -40,7 +41,7 @@ impl<'s> Drop for Rides<'s> {
 impl<'s> Model for Rides<'s> {
     ghost use Rattle.std.specs.Prelude.{◌≡◌};
     ghost use Rattle.feed_rows.specs.SoundFeed.{IsSoundFeed};
-    ghost use Rattle.plan_rides.specs.Asked.{Asked, asked};
+    ghost use Rattle.feed_rows.specs.Journeys.{Asked, asked};
     ghost use Rattle.plan_rides.specs.InTime.{IsUsualQuery};
     ghost use Rattle.plan_rides.specs.Scopes.{IsInScope};
 
@@ -107,7 +108,7 @@ impl<'s> Rides<'s> {
     }
 
     /// The arrival at the last stop within the window, from where one stands.
-    #[tactic(auto, unfolding(crate::specs::Asked::arrival_in_time))]
+    #[tactic(auto, unfolding(crate::specs::InTime::arrival_in_time))]
     pub fn arrival_in_time(&self, standing: Standing, last: StopId) -> Option<Moment>
         requires { IsWithinWindow self.now.query standing.at.0 }
         ensures { option_map (λ (moment : Moment). moment.0) result ≡ arrival_in_time self.now.feed self.now.query (stand_of standing) last }

@@ -21,7 +21,7 @@ use Rattle.feed_rows.specs.StopLinks.{stop_set}
 use Rattle.feed_laws.proofs.ParetoLaws.{at_most-trans}
 use Rattle.pareto_front.specs.Fronts.{has_as_good, CoversAll, IsFront}
 use Rattle.plain_laws.proofs.Laws.{All-slice_get, slice_get-Contains, slice_get-append_left, list_any-map, map-tells}
-use Rattle.plan_rides.specs.Asked.{arrival_in_time}
+use Rattle.plan_rides.specs.InTime.{arrival_in_time}
 use Rattle.plan_rides.proofs.ArrivalLaws.{arrives_in_time, in_time_arrives}
 use Rattle.plan_rides.proofs.MarkLaws.{member_of_stands_for}
 use Rattle.round_laws.specs.LabelSteps.{IsLabelEnd}

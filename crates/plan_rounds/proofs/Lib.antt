@@ -3,7 +3,6 @@ pub mod FutileLaws
 pub mod KeptLaws
 pub mod LastLaws
 pub mod LegLaws
-pub mod MoveBounds
 pub mod MoveLaws
 pub mod PlannedLaws
 pub mod PriceLaws

@@ -17,7 +17,7 @@ use Rattle.fare_automaton.specs.Fewest.{AreEnoughMoves}
 use Rattle.round_labels.specs.declared.label.Label.{Label}
 use Rattle.round_labels.specs.Labels.{IsBounded}
 use Rattle.plan_rounds.specs.Moves.{AreMovesOf, betters}
-use Rattle.plan_rounds.proofs.MoveBounds.{move_small}
+use Rattle.fare_laws.proofs.SmallLaws.{move_small}
 
 -- enough moves after a label
 moves_of : (feed : FeedRows) (query : Query) (label : Label) (leg : LegFacts) (moves : List Move) → IsSoundFeed feed → IsBounded label →

@@ -23,7 +23,7 @@ use Rattle.plan_rounds.specs.Lasts.{AreLastMoves}
 use Rattle.plan_rounds.specs.Stores.{StepsTo}
 use Rattle.plan_rounds.specs.Prices.{AreLeastPrices, IsLateSince, far, least_since}
 use Rattle.plan_rounds.specs.declared.prices.LeastPrices.{LeastPrices}
-use Rattle.plan_rounds.proofs.MoveBounds.{move_small}
+use Rattle.fare_laws.proofs.SmallLaws.{move_small}
 use Rattle.plan_rounds.proofs.SpanLaws.{leads_few, step_within}
 use Rattle.round_laws.specs.LabelSteps.{ways}
 use Rattle.search_laws.specs.Ways.{LeadsBy}

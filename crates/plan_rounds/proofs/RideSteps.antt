@@ -1,9 +1,9 @@
 -- The rides that are caught from a label, and the labels that they lead to.
 use Rattle.std.proofs.Common.{◌≡◌, refl, sym, ◌∙◌, ap, subst, ℕ, ◌+◌, ◌<◌, ◌≤◌, ◌⊎◌, inl, inr, ⊎_elim, true, List, [], length, arith}
-use Rattle.std.specs.Prelude.{IsTrue, Some, slice_get, option_map}
+use Rattle.std.specs.Prelude.{IsTrue, Some, slice_get}
 use Rattle.std.proofs.lemmas.Bool.{cases_lt}
 use Rattle.std.proofs.lemmas.Int.{ints}
-use Rattle.std.proofs.lemmas.Option.{same_Some, slice_get-map}
+use Rattle.std.proofs.lemmas.Option.{same_Some}
 use Rattle.transit_base.specs.declared.numbers.StopId.{StopId}
 use Rattle.feed_rows.specs.Journeys.{stands_for}
 use Rattle.feed_rows.specs.declared.journeys.LegFacts.{LegFacts}
@@ -27,7 +27,7 @@ use Rattle.plan_rides.proofs.CaughtLaws.{caught_ride, caught_within}
 use Rattle.round_laws.specs.LabelSteps.{IsCaughtRide, facts_after, start_facts, ways}
 use Rattle.round_labels.specs.declared.label.Label.{Label}
 use Rattle.plan_rounds.specs.declared.search.Source.{Source}
-use Rattle.round_labels.specs.Labels.{IsBounded, facts_of, label_of, stand_of_label, started, went_on}
+use Rattle.round_labels.specs.Labels.{IsBounded, facts_of, stand_of_label, started, went_on}
 use Rattle.plan_rounds.specs.Sources.{IsSource, StepsByFirst, LeadsByFirst}
 use Rattle.plan_rounds.specs.Stores.{StepsBy, IsStartAmong, round_search}
 use Rattle.plan_rounds.proofs.StopLaws.{stands_inside}

@@ -1,8 +1,8 @@
 -- The labels from which a round goes on.
 use Rattle.std.proofs.Common.{◌≡◌, sym, ◌∙◌, ap, subst, ℕ, ◌+◌, ◌<◌, ◌≤◌, ◌⊎◌, inl, inr, ⊎_elim, List, length, arith}
-use Rattle.std.specs.Prelude.{Some, slice_get, IsTrue, option_map, take}
+use Rattle.std.specs.Prelude.{Some, slice_get, IsTrue, take}
 use Rattle.std.proofs.lemmas.Bool.{cases_lt}
-use Rattle.std.proofs.lemmas.Option.{same_Some, slice_get-map, slice_get_within}
+use Rattle.std.proofs.lemmas.Option.{same_Some, slice_get_within}
 use Rattle.transit_base.specs.declared.numbers.StopId.{StopId}
 use Rattle.feed_rows.specs.declared.journeys.Query.{Query}
 use Rattle.feed_rows.specs.FeedRows.{FeedRows}
@@ -10,13 +10,13 @@ use Rattle.feed_rows.specs.Journeys.{stands_for}
 use Rattle.feed_rows.specs.JourneyStands.{first_stand}
 use Rattle.feed_rows.specs.PartialJourneys.{LabelFacts}
 use Rattle.plain_laws.proofs.Laws.{All-slice_get, slice_get-Contains}
-use Rattle.plan_rides.specs.InTime.{IsUsualQuery, IsWithinWindow}
+use Rattle.plan_rides.specs.InTime.{IsUsualQuery}
 use Rattle.round_laws.specs.LabelSteps.{stand_of_facts, ways}
 use Rattle.round_labels.specs.declared.kept_label.KeptLabel.{KeptLabel}
 use Rattle.round_labels.specs.declared.label.Label.{Label}
 use Rattle.plan_rounds.specs.declared.search.Source.{Source}
 use Rattle.round_labels.specs.Kept.{IsKeptAt, whole_by}
-use Rattle.round_labels.specs.Labels.{IsBounded, facts_of, label_of, labels_of, stand_of_label}
+use Rattle.round_labels.specs.Labels.{facts_of, stand_of_label}
 use Rattle.plan_rounds.specs.Scans.{AreOrigins, IsOrigin}
 use Rattle.plan_rounds.specs.Sources.{IsSource}
 use Rattle.plan_rounds.specs.Stores.{StepsTo, StepsFromFirst, round_search, round_told, IsFit}

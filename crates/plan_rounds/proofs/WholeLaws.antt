@@ -1,11 +1,11 @@
 -- The table of a search is real, and finds whatever is offered but for what was given; that of one that is to be whole is exact,
 -- sound and closed.
-use Rattle.std.proofs.Common.{◌≡◌, sym, ◌∙◌, ap, subst, ℕ, ◌<◌, ◌⊎◌, inl, inr, ⊎_elim, Bool, true, false, List, length, get_or, All}
+use Rattle.std.proofs.Common.{◌≡◌, sym, ◌∙◌, ap, subst, ℕ, ◌<◌, ◌⊎◌, inl, inr, ⊎_elim, Bool, true, false, List, get_or, All}
 use Rattle.std.specs.Prelude.{◌≢◌, Some, slice_get}
 use Rattle.std.proofs.lemmas.Bool.{both_ways, cases_order}
-use Rattle.std.proofs.lemmas.List.Elements.{All-contains, All-weaker}
+use Rattle.std.proofs.lemmas.List.Elements.{All-contains}
 use Rattle.std.proofs.lemmas.List.Folds.{Any-from_list_any, list_any-from_Any}
-use Rattle.plain_laws.proofs.Laws.{list_any-map, Contains-slice_get}
+use Rattle.plain_laws.proofs.Laws.{list_any-map, Contains-slice_get, mapped_tells}
 use Rattle.std.proofs.lemmas.Option.{slice_get-map, slice_get_within, get_or_from_slice_get}
 use Rattle.feed_rows.specs.declared.journeys.Query.{Query}
 use Rattle.feed_rows.specs.ClosedTable.{IsClosedTable}
@@ -31,7 +31,7 @@ use Rattle.round_table.specs.Finals.{final_of, finals_of, is_bettered}
 use Rattle.round_labels.specs.Labels.{facts_of, label_of, labels_of, covers}
 use Rattle.round_table.specs.Tables.{table_in, FindsBut, IsExactTable, IsRealTable, is_given}
 use Rattle.round_table.proofs.TableLaws.{are_bags}
-use Rattle.search_laws.proofs.LinkLaws.{closed_as, linked_as, mapped_tells, starts_as}
+use Rattle.search_laws.proofs.LinkLaws.{closed_as, linked_as, starts_as}
 use Rattle.plan_rounds.specs.Stores.{IsFit, round_search}
 use Rattle.round_laws.specs.Futility.{outdoes}
 use Rattle.search_laws.specs.Cuts.{MayLack}

@@ -9,7 +9,8 @@ use Rattle.fare_automaton.specs.Known.{KnownPicks}
 use Rattle.fare_automaton.specs.Terms.{terms}
 use Rattle.round_labels.specs.declared.label.Label.{Label}
 use Rattle.plan_rounds.specs.Searched.{Searched}
-use Rattle.round_labels.specs.Labels.{IsSmall, same_parts}
+use Rattle.fare_laws.specs.SmallMoves.{IsSmall}
+use Rattle.round_labels.specs.Labels.{same_parts}
 
 -- enough of those that there are, with amounts that one ride can cost
 pub record AreMovesOf (feed : FeedRows) (query : Query) (label : Label) (leg : LegFacts) (moves : List Move) : Type 0 where

@@ -7,7 +7,7 @@ use Rattle.feed_rows.specs.JourneyEntries.{IsEntry}
 use Rattle.feed_rows.specs.ParetoTriples.{at_most}
 use Rattle.pareto_front.specs.Fronts.{has_as_good}
 use Rattle.plain_laws.specs.Adds.{Adds, OnlyBesides}
-use Rattle.plan_rides.specs.Asked.{Asked}
+use Rattle.feed_rows.specs.Journeys.{Asked}
 use Rattle.round_table.specs.Tables.{TableParts}
 use Rattle.plan_rounds.specs.Searched.{IsTableOf, searched}
 use Rattle.round_table.specs.Tables.{table_by}

@@ -8,7 +8,7 @@ use Rattle.feed_rows.specs.RoundTables.{RoundTable}
 use Rattle.feed_rows.specs.ClosedTable.{IsClosedTable}
 use Rattle.feed_rows.specs.SoundTable.{CoversJourneys}
 use Rattle.std.specs.List.{list_any}
-use Rattle.plan_rides.specs.Asked.{Asked}
+use Rattle.feed_rows.specs.Journeys.{Asked}
 use Rattle.plan_rounds.specs.declared.search.Aim.{Aim}
 use Rattle.round_laws.specs.Futility.{is_within, least_end, outdoes}
 use Rattle.round_table.specs.declared.finals.Final.{Final}

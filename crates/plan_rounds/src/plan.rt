@@ -8,7 +8,7 @@ ghost use Rattle.feed_rows.specs.JourneyEntries.{CoversOffers, IsEntry, IsExactA
 ghost use Rattle.plan_rides.specs.InTime.{IsUsualQuery};
 ghost use Rattle.feed_rows.specs.ClosedTable.{IsClosedTable};
 ghost use Rattle.feed_rows.specs.SoundTable.{IsSoundTable};
-ghost use Rattle.plan_rides.specs.Asked.{asked};
+ghost use Rattle.feed_rows.specs.Journeys.{asked};
 ghost use Rattle.plan_rides.specs.Scopes.{IsInScope};
 ghost use Rattle.plan_rounds.specs.Moves.{HasFares};
 ghost use Rattle.plan_rounds.specs.Prices.{AreLeastPrices};

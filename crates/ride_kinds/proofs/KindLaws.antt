@@ -1,10 +1,9 @@
 -- The kinds of the legs that rides are.
 use Rattle.std.proofs.Common.{◌≡◌, sym, ◌∙◌, ap, subst, ℕ, ◌⊎◌, ⊎_elim, List, Some, refl}
-use Rattle.std.specs.Prelude.{Option, slice_get, option_map}
-use Rattle.feed_rows.specs.declared.journeys.LegFacts.{LegFacts}
+use Rattle.std.specs.Prelude.{Option}
 use Rattle.feed_rows.specs.declared.journeys.RideFacts.{RideFacts}
 use Rattle.feed_rows.specs.FeedRows.{FeedRows}
-use Rattle.feed_rows.specs.Legs.{leg_facts, frames_at, stop_areas}
+use Rattle.feed_rows.specs.Legs.{leg_facts}
 use Rattle.fare_automaton.specs.Known.{KnownPicks}
 use Rattle.fare_automaton.specs.Terms.{FareTerms}
 use Rattle.fare_timeframes.specs.Cuts.{AreLike}

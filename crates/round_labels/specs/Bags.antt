@@ -1,7 +1,7 @@
 -- Labels in bags.
-use Rattle.std.specs.Prelude.{◌≡◌, ℕ, Bool, true, false, ◌==◌, nat_eq, List, [], ◌∷◌, length, filter, slice_get, Some, All, AllPairs, Contains}
+use Rattle.std.specs.Prelude.{◌≡◌, ℕ, Bool, true, false, ◌==◌, nat_eq, List, [], ◌∷◌, length, slice_get, Some, All, AllPairs}
 use Rattle.std.specs.Option.{option_map_or}
-use Rattle.label_bag.specs.Bags.{Gathers, AreApart}
+use Rattle.label_bag.specs.Bags.{AreApart}
 use Rattle.label_bag.specs.Flights.{IsFlight}
 use Rattle.plain_laws.specs.Plain.{joined_below}
 use Rattle.search_laws.specs.Stores.{gathered as gathered_by}
@@ -10,7 +10,7 @@ use Rattle.round_labels.specs.declared.label.Label.{Label}
 use Rattle.round_labels.specs.declared.label_class.LabelClass.{LabelClass}
 use Rattle.round_labels.specs.declared.last_move.LastMove.{LastMove}
 use Rattle.round_labels.specs.Kept.{IsNumbered, is_as_good, whole, wholes}
-use Rattle.round_labels.specs.Labels.{class_of, same_class, covers}
+use Rattle.round_labels.specs.Labels.{class_of, same_class}
 
 -- labels in ascending order of arrival, of which none is as good as another
 pub record IsBag (kept : List KeptLabel) : Type 0 where

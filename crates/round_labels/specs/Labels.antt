@@ -80,11 +80,6 @@ pub record IsBounded (label : Label) : Type 0 where
   pub paid : nat_abs label.paid.0 ≤ 3 * 10 ^ 12 * label.rides
   pub held : nat_abs label.held.0 ≤ 10 ^ 12
 
--- the amounts are within what one ride can cost
-pub record IsSmall (move : Move) : Type 0 where
-  pub paid : nat_abs move.paid.0 ≤ 3 * 10 ^ 12
-  pub held : nat_abs move.held.0 ≤ 10 ^ 12
-
 -- ---- which label is as good as another
 
 -- both states are there and the same, or neither is there

@@ -2,7 +2,8 @@
 ghost use Rattle.std.specs.Prelude.{◌≡◌, ◌+◌, ◌+ℤ◌, ◌<◌, ◌≤◌, ◌^◌, Some, nat_abs};
 ghost use Rattle.feed_rows.specs.Limits.{most_rides};
 ghost use Rattle.feed_timetable.specs.Standings.{stand_of};
-ghost use Rattle.round_labels.specs.Labels.{IsBounded, IsSmall, class_of, same_parts, stand_of_label, started, went_on};
+ghost use Rattle.fare_laws.specs.SmallMoves.{IsSmall};
+ghost use Rattle.round_labels.specs.Labels.{IsBounded, class_of, same_parts, stand_of_label, started, went_on};
 
 use crate::label_class::LabelClass;
 use feed_rows::{FareState, Move, Query, Ride, RideFacts};

@@ -1,19 +1,18 @@
 -- What such labels end in is the exact answer.
-use Rattle.std.proofs.Common.{◌≡◌, refl, sym, ◌∙◌, ap, subst, ℕ, ◌<◌, ⊎_elim, Bool, true, false, List, length, take, get_or, arith}
+use Rattle.std.proofs.Common.{◌≡◌, refl, sym, ◌∙◌, ap, subst, ℕ, ◌<◌, ⊎_elim, Bool, true, false, List, length, get_or, arith}
 use Rattle.std.specs.Prelude.{Option, Some, slice_get, All, AllPairs, Any, IsTrue, option_and_then}
 use Rattle.std.proofs.lemmas.Option.{same_Some, slice_get_within, slice_get-get_or}
-use Rattle.transit_base.specs.declared.numbers.StopId.{StopId}
 use Rattle.feed_rows.specs.declared.fares.Entry.{Entry}
 use Rattle.feed_rows.specs.declared.fares.Triple.{Triple}
 use Rattle.feed_rows.specs.declared.journeys.Query.{Query}
 use Rattle.feed_rows.specs.FeedRows.{FeedRows}
 use Rattle.feed_rows.specs.JourneyEntries.{IsEntry, IsExactAnswer, CoversOffers}
 use Rattle.feed_rows.specs.ParetoTriples.{at_most, is_before}
-use Rattle.feed_rows.specs.PartialJourneys.{LabelFacts, journey_to}
+use Rattle.feed_rows.specs.PartialJourneys.{journey_to}
 use Rattle.feed_rows.specs.RoundTables.{Final, RoundTable, traced, entry_of_final, entries_of}
 use Rattle.feed_rows.specs.SoundFeed.{IsSoundFeed}
 use Rattle.feed_rows.specs.SoundTable.{EndsExactly}
-use Rattle.plain_laws.proofs.Laws.{All-slice_get, Contains-slice_get, list_any-place, collect_below_some, collect_below_tells, IsCollected}
+use Rattle.plain_laws.proofs.Laws.{All-slice_get, list_any-place, collect_below_some, collect_below_tells, IsCollected}
 use Rattle.feed_laws.proofs.ExactLaws.{is_covered, exact_of_front, covers_offers}
 use Rattle.feed_laws.proofs.ParetoLaws.{at_most-trans}
 use Rattle.search_laws.specs.Cuts.{MayLack}

@@ -7,8 +7,7 @@ use Rattle.transit_base.specs.declared.numbers.StopId.{StopId}
 use Rattle.feed_rows.specs.RoundTables.{Label as Kept}
 use Rattle.feed_rows.specs.SoundTable.{AreBags}
 use Rattle.plain_laws.specs.Plain.{at_and, filled_and}
-use Rattle.plain_laws.proofs.Laws.{AllPairs-picks_below, Contains-picks_below, filled_and-true, picks_below-tells}
-use Rattle.search_laws.proofs.LinkLaws.{mapped_tells}
+use Rattle.plain_laws.proofs.Laws.{AllPairs-picks_below, Contains-picks_below, filled_and-true, picks_below-tells, mapped_tells}
 use Rattle.round_labels.specs.declared.label.Label.{Label}
 use Rattle.round_labels.specs.Labels.{label_of}
 use Rattle.round_table.specs.declared.finals.Final.{Final}

@@ -1,11 +1,11 @@
 -- Labels that begin ways or go on from earlier ones.
 use Rattle.std.proofs.Common.{◌≡◌, sym, ◌∙◌, ap, subst, ℕ, zero, suc, ◌+◌, ◌-◌, ◌<◌, ◌≤◌, ◌⊎◌, inl, inr, ⊎_elim, List, [], ◌∷◌, ◌++◌, length, take, drop, take-append-drop, length-take, refl, arith}
-use Rattle.std.specs.Prelude.{All, None, Option, Some, map, option_map, slice_get}
+use Rattle.std.specs.Prelude.{All, Some, map, option_map, slice_get}
 use Rattle.std.proofs.lemmas.Bool.{cases_lt}
 use Rattle.std.proofs.lemmas.List.{take-map}
 use Rattle.std.proofs.lemmas.List.Elements.{All-map, All-weaker}
-use Rattle.std.proofs.lemmas.Option.{none-some, same_Some, slice_get-map, slice_get_within}
-use Rattle.plain_laws.proofs.Laws.{All-slice_get, Contains-map, slice_get-append_left}
+use Rattle.std.proofs.lemmas.Option.{slice_get-map, slice_get_within}
+use Rattle.plain_laws.proofs.Laws.{All-slice_get, Contains-map, mapped_tells, slice_get-append_left, slice_get-append_right, slice_get-take, take_short}
 use Rattle.search_laws.specs.Links.{AreClosed, AreLinked, CoversStarts, CoversSteps, IsCoveredBy, IsLinked, IsNext, IsStart, Told, told_as}
 use Rattle.search_laws.specs.Ways.{AreLawful, Ways}
 
@@ -19,32 +19,6 @@ earlier {X} xs n i x is =
       ap (λ (ys : List X). slice_get ys i) (sym (take-append-drop n xs))
           ∙ slice_get-append_left (take n xs) (drop n xs) i within ∙ is,
     )
-
--- an item past the first list
-slice_get-append_right : {X : Type 0} (xs ys : List X) (k : ℕ) → slice_get (xs ++ ys) (length xs + k) ≡ slice_get ys k
-slice_get-append_right [] ys k = ap (slice_get ys) (omega arith)
-slice_get-append_right (x ∷ xs) ys k =
-    let next : length (x ∷ xs) + k ≡ suc (length xs + k) = omega arith in
-    ap (slice_get (x ∷ (xs ++ ys))) next ∙ slice_get-append_right xs ys k
-
--- no more than n items are the first n
-take_short : {X : Type 0} (n : ℕ) (xs : List X) → length (take n xs) ≤ n
-take_short zero xs = omega arith
-take_short (suc n) [] = omega arith
-take_short (suc n) (x ∷ xs) = let rest = take_short n xs in omega arith
-
--- an item among the first n
-slice_get-take : {X : Type 0} (n : ℕ) (xs : List X) (i : ℕ) → i < n → slice_get (take n xs) i ≡ slice_get xs i
-slice_get-take zero xs i lt = absurd (omega arith)
-slice_get-take (suc n) [] i lt = refl
-slice_get-take (suc n) (x ∷ xs) zero lt = refl
-slice_get-take (suc n) (x ∷ xs) (suc i) lt = slice_get-take n xs i (omega arith)
-
--- what a mapped option tells
-pub mapped_tells : {X Y : Type 0} (f : X → Y) (o : Option X) (y : Y) → option_map f o ≡ Some y →
-    (x : X) × (o ≡ Some x) × (f x ≡ y)
-mapped_tells f None y e = absurd (none-some y e)
-mapped_tells f (Some x) y e = (x, refl, same_Some _ _ e)
 
 module _ {L F R M E T : Type 0} (w : Ways F R M E T) (told : Told L F R M) where
   -- ways have the facts of a linked label

@@ -24,7 +24,8 @@ use Rattle.ticket_read.specs.Cuts.{lines_in, fields_in}
 use Rattle.ticket_read.specs.Drafts.{empty_draft, with_item}
 use Rattle.ticket_read.specs.EntryTexts.{IsTextOf, HasOneListByText}
 use Rattle.ticket_read.specs.Items.{item_of}
-use Rattle.ticket_read.specs.Judgement.{Asked, asked, fits_query, way_arrival, journey_arrival, judged, entry_of}
+use Rattle.feed_rows.specs.Journeys.{Asked, asked}
+use Rattle.ticket_read.specs.Judgement.{fits_query, way_arrival, journey_arrival, judged, entry_of}
 use Rattle.ticket_read.specs.Readings.{start, all_done, with_draft, closed, begun, added, read_line, read_entries}
 use Rattle.ticket_read.specs.declared.drafts.Draft.{Draft}
 use Rattle.ticket_read.specs.declared.drafts.Item.{Item}

@@ -11,14 +11,6 @@ use Rattle.feed_rows.specs.Journeys.{stands_for}
 use Rattle.plain_laws.specs.Plain.{given, given_last, when}
 use Rattle.ticket_read.specs.declared.drafts.Draft.{Draft}
 
--- what is asked: a feed, and a query over it
-pub record Asked : Type 0 where
-  pub feed : FeedRows
-  pub query : Query
-
-abbrev pub asked : FeedRows → Query → Asked
-asked feed query = record { feed = feed; query = query }
-
 -- the moment lies within 2^50 seconds of 1970
 pub record IsNearMoment (moment : ℤ) : Type 0 where
   pub low : negsuc (2 ^ 50) ≤ℤ moment

@@ -5,7 +5,8 @@ ghost use Rattle.feed_rows.specs.SoundFeed.{IsSoundFeed};
 ghost use Rattle.plain_laws.specs.Plain.{when};
 ghost use Rattle.transit_base.specs.declared.moments.Money.{Money};
 ghost use Rattle.fare_timeframes.specs.BuiltTimeframes.{AreTimeframesOf};
-ghost use Rattle.ticket_read.specs.Judgement.{asked, IsNearQuery, judged, entry_of};
+ghost use Rattle.feed_rows.specs.Journeys.{asked};
+ghost use Rattle.ticket_read.specs.Judgement.{IsNearQuery, judged, entry_of};
 ghost use Rattle.feed_rows.specs.declared.fares.Entry.{Entry};
 ghost use Rattle.ticket_read.specs.EntryTexts.{IsTextOf};
 ghost use Rattle.ticket_read.specs.Readings.{start, closed, begun, told, read_line, read_entries};
@@ -71,7 +72,8 @@ impl<'s, 'f> Drop for Reader<'s, 'f> {
 impl<'s, 'f> Model for Reader<'s, 'f> {
     ghost use Rattle.std.specs.Prelude.{◌≡◌};
     ghost use Rattle.fare_timeframes.specs.BuiltTimeframes.{AreTimeframesOf};
-    ghost use Rattle.ticket_read.specs.Judgement.{Asked, asked, IsNearQuery};
+    ghost use Rattle.feed_rows.specs.Journeys.{Asked, asked};
+    ghost use Rattle.ticket_read.specs.Judgement.{IsNearQuery};
 
     ghost Value = { Asked };
 

@@ -6,7 +6,7 @@ use Rattle.std.proofs.lemmas.Int.{by_lt_z, ints}
 use Rattle.jiff_core.specs.Calendar.{day_count, days_from_civil, days_in_month, days_in_year, days_of_months, day_of_year, IsYear, IsCivilDate}
 use Rattle.jiff_core.specs.declared.civil.date.Date.{Date}
 use Rattle.jiff_core.specs.Date.{epoch_day}
-use Rattle.jiff_core.proofs.CalendarLemmas.{days_of_months_more, days_of_months_mono, days_of_months-zero, days_of_months_all, day_of_year_bound, day_count-day_of_year, day_count-next_year, day_count-later_year, day_count-lt_year, days_from_civil-day_count, day_count-end, day_count_bounds}
+use Rattle.jiff_core.proofs.CalendarLemmas.{days_of_months_more, days_of_months_mono, days_of_months-zero, days_of_months_all, day_of_year_bound, day_count-day_of_year, day_count-next_year, day_count-later_year, day_count-lt_year, days_from_civil-day_count, day_count-end}
 use Rattle.jiff_core.proofs.MarchLemmas.{day_count-early}
 use Rattle.jiff_core.proofs.SignedLemmas.{signed_arith}
 use borrow.Author.Differences.{up, down}

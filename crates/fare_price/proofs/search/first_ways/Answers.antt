@@ -3,7 +3,8 @@ use Rattle.std.specs.Prelude.{None, pos}
 use Rattle.feed_rows.specs.declared.states.Move.{Move}
 use Rattle.label_bag.specs.Bags.{Gathers}
 use Rattle.fare_price.specs.declared.ways.Way.{Way}
-use Rattle.fare_price.specs.Ways.{is_as_good, way_by, IsSmall}
+use Rattle.fare_laws.specs.SmallMoves.{IsSmall}
+use Rattle.fare_price.specs.Ways.{is_as_good, way_by}
 use Rattle.fare_price.proofs.LayerLaws.{moves_small, adds_by_moves}
 use Rattle.fare_price.proofs.search.first_ways.Goals as goal
 

@@ -2,7 +2,8 @@ use Rattle.std.proofs.Common.{sym, subst, List, All, map}
 use Rattle.std.specs.Prelude.{Some}
 use Rattle.feed_rows.specs.declared.states.Move.{Move}
 use Rattle.label_bag.specs.Bags.{Gathers}
-use Rattle.fare_price.specs.Ways.{is_as_good, way_by, IsSmall}
+use Rattle.fare_laws.specs.SmallMoves.{IsSmall}
+use Rattle.fare_price.specs.Ways.{is_as_good, way_by}
 use Rattle.fare_price.proofs.GatherLaws.{OnOk_then}
 use Rattle.fare_price.proofs.LayerLaws.{moves_small, adds_by_moves}
 use Rattle.fare_price.proofs.search.offer_after.Goals as goal

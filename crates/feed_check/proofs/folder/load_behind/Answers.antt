@@ -1,4 +1,4 @@
-use Rattle.std.proofs.Common.{◌∙◌, sym, ap, arith}
+use Rattle.std.proofs.Common.{◌∙◌, arith}
 use Rattle.folder_io.proofs.FilesRead.{passed_on}
 use Rattle.feed_check.proofs.LoadLaws.{opens_all, unread_gives, loaded_so, is_read, refused_so, loaded_feed}
 use Rattle.feed_check.proofs.folder.load_behind.Goals as goal

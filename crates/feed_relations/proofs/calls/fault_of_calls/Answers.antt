@@ -1,5 +1,4 @@
 use Rattle.std.proofs.Common.{◌≡◌, ◌∙◌, ◌<◌, Some, None, sym, ap, subst, ℕ, arith}
-use Rattle.std.specs.Prelude.{option_map}
 use Rattle.plain_laws.specs.Plain.{first_below}
 use Rattle.plain_laws.proofs.Laws.{first_below_found, first_below_next}
 use Rattle.feed_files.specs.declared.names.FileName.TheVariants as file

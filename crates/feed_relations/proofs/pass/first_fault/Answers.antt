@@ -1,6 +1,5 @@
-use Rattle.std.proofs.Common.{◌≡◌, sym, ◌∙◌, subst, List, ◌<◌, length, get_or, None, Some, ℕ, arith}
-use Rattle.plain_laws.specs.Plain.{first_below}
-use Rattle.plain_laws.proofs.Laws.{at_item, first_in_found, first_in_next}
+use Rattle.std.proofs.Common.{◌≡◌, sym, ◌∙◌, subst, List, ◌<◌, length, get_or, None, Some, arith}
+use Rattle.plain_laws.proofs.Laws.{first_in_found, first_in_next}
 use Rattle.feed_files.specs.Names.{all_files}
 use Rattle.feed_files.specs.declared.names.FileName.{FileName}
 use Rattle.feed_faults.specs.FirstFault.{relation_fault, first_relation_fault}

@@ -1,4 +1,4 @@
-use Rattle.std.proofs.Common.{ap, subst, sym, List, length, ◌∷◌, []}
+use Rattle.std.proofs.Common.{ap, subst, sym, length, ◌∷◌, []}
 use Rattle.label_bag.specs.Bags.{IsUncovered}
 use Rattle.label_bag.proofs.ClassLaws.{placed_as, gathers_in, keeps_in, apart_in, flight_in}
 use Rattle.label_bag.proofs.in_class.add_in_class.Goals as goal

@@ -1,6 +1,6 @@
 use Rattle.std.proofs.Common.{subst}
 use Rattle.std.specs.Prelude.{IfOk}
-use Rattle.plan_rides.specs.Asked.{asked}
+use Rattle.feed_rows.specs.Journeys.{asked}
 use Rattle.plan_rides.specs.Scopes.{HeldFor}
 use Rattle.plan_rounds.specs.Planned.{IsPlanned}
 use Rattle.plan_rounds.proofs.plan.planned_of.Goals as goal

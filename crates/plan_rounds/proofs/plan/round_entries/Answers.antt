@@ -1,6 +1,6 @@
 use Rattle.std.specs.Prelude.{refl}
 use Rattle.std.proofs.lemmas.Result.{IfOk-weaker}
-use Rattle.plan_rides.specs.Asked.{asked}
+use Rattle.feed_rows.specs.Journeys.{asked}
 use Rattle.round_table.specs.Tables.{table_by}
 use Rattle.plan_rounds.proofs.PlannedLaws.{covers_both, entries_are}
 use Rattle.plan_rounds.proofs.plan.round_entries.Goals as goal

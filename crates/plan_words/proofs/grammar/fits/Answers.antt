@@ -1,4 +1,4 @@
-use Rattle.std.proofs.Common.{◌≡◌, ◌∙◌, sym, false, true, inl, inr, length}
+use Rattle.std.proofs.Common.{◌≡◌, ◌∙◌, sym, inl, inr, length}
 use Rattle.commands.specs.CommandWords.{is_taken, role_at}
 use Rattle.commands.specs.Table.{form_of}
 use Rattle.plain_laws.specs.Plain.{all_below}

@@ -1,4 +1,4 @@
-use Rattle.std.proofs.Common.{◌∙◌, ℕ, ℤ, true, pos, ◌+ℤ◌, ◌≤ℤ◌, List, Contains, get_or, subst, take, take_all, ap, sym}
+use Rattle.std.proofs.Common.{◌∙◌, ℕ, ℤ, pos, ◌+ℤ◌, ◌≤ℤ◌, List, Contains, get_or, subst, take, take_all, ap, sym}
 use mir.Syntax.{w64}
 use mir.Val.{of_z, to_z}
 use Rattle.std.proofs.lemmas.Int.{to_z-of_z}

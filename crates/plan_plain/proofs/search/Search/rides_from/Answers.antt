@@ -1,8 +1,7 @@
 use Rattle.std.proofs.Common.{sym, subst}
 use Rattle.std.specs.Prelude.{All, IfOk}
-use Rattle.feed_rows.specs.SoundFeed.{IsSoundFeed}
 use Rattle.feed_timetable.specs.Standings.{stand_of}
-use Rattle.plan_rides.specs.Asked.{Asked}
+use Rattle.feed_rows.specs.Journeys.{Asked}
 use Rattle.plan_rides.specs.Boarding.{MayRide}
 use Rattle.plan_rides.specs.InTime.{HasCaught, IsRight, IsWithinWindow}
 use Rattle.plan_plain.proofs.search.Search.rides_from.Goals as goal

@@ -1,6 +1,7 @@
 use Rattle.std.proofs.Common.{refl, ap, ◌∙◌}
 use Rattle.feed_timetable.specs.Standings.{stand_of}
-use Rattle.plan_rides.specs.Asked.{Asked, arrival_in_time}
+use Rattle.feed_rows.specs.Journeys.{Asked}
+use Rattle.plan_rides.specs.InTime.{arrival_in_time}
 use Rattle.round_table.specs.declared.finals.Final.{Final}
 use Rattle.plan_rounds.proofs.FinalSteps.{ends_offer, end_is, end_least, end_none}
 use Rattle.plan_rounds.proofs.search.Search.offer_end.Goals as goal

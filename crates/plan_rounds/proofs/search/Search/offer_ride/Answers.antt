@@ -5,7 +5,7 @@ use Rattle.plain_laws.proofs.Laws.{All-slice_get}
 use Rattle.feed_rows.specs.declared.states.Move.{Move}
 use Rattle.feed_rows.specs.FareSteps.{move_after}
 use Rattle.feed_rows.specs.Legs.{leg_facts}
-use Rattle.round_labels.specs.Labels.{IsSmall}
+use Rattle.fare_laws.specs.SmallMoves.{IsSmall}
 use Rattle.plan_rounds.specs.Searched.{Lacks}
 use Rattle.plan_rounds.proofs.RideSteps.{leads_more, within_after}
 use Rattle.plan_rounds.specs.Moves.{HasBetter}

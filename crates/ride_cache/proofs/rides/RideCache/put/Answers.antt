@@ -1,6 +1,5 @@
 use Rattle.std.proofs.Common.{◌≡◌, ◌⊎◌, inl, inr, ⊎_elim, ap, subst, List}
 use Rattle.std.specs.Prelude.{Option}
-use Rattle.feed_rows.specs.declared.journeys.RideFacts.{RideFacts}
 use Rattle.ride_cache.specs.declared.rides.KeptRide.{KeptRide}
 use Rattle.ride_cache.specs.Kept.{HoldsFor}
 use Rattle.ride_cache.proofs.rides.RideCache.put.Goals as goal

@@ -2,7 +2,7 @@ use Rattle.std.proofs.Common.{◌∙◌, sym, ap, refl, None}
 use mathlib.Core.Bool.{true≢false}
 use Rattle.plain_laws.proofs.Laws.{bytes_eq-true, eq-bytes_eq}
 use Rattle.feed_rows.specs.EntryText.{text_of_entries}
-use Rattle.ticket_read.specs.Judgement.{Asked}
+use Rattle.feed_rows.specs.Journeys.{Asked}
 use Rattle.ticket_read.proofs.EntryLaws.{only_read, is_text, told_read, none_read}
 use Rattle.ticket_read.proofs.reader.Reader.entries.Goals as goal
 

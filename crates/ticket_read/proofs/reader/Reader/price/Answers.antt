@@ -1,5 +1,5 @@
 use Rattle.std.proofs.Common.{ap, arith, length}
-use Rattle.ticket_read.specs.Judgement.{Asked}
+use Rattle.feed_rows.specs.Journeys.{Asked}
 use Rattle.ticket_read.proofs.LoopLaws.{legs_many}
 use Rattle.ticket_read.proofs.reader.Reader.price.Goals as goal
 

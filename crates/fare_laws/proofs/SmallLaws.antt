@@ -17,7 +17,7 @@ use Rattle.feed_rows.specs.FareChoices.{chosen_leg}
 use Rattle.feed_rows.specs.FareSums.{amount_of}
 use Rattle.feed_rows.specs.FareSteps.{place_kind, place_charge, frees_first, frees_next, leg_taken, place_taken, move_of_first, move_of_next, move_after}
 use Rattle.plain_laws.proofs.Laws.{All-slice_get, chain_gives}
-use Rattle.round_labels.specs.Labels.{IsSmall}
+use Rattle.fare_laws.specs.SmallMoves.{IsSmall}
 
 -- an amount of a sound feed
 abbrev IsLow : ℤ → Type 0

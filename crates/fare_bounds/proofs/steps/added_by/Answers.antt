@@ -1,1 +1,0 @@
--- Under these two types the leg is free.
