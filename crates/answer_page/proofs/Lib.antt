@@ -1,5 +1,7 @@
+mod AmountLaws
 mod FillLaws
 mod MarkupLaws
 mod NameLaws
+mod OwnLaws
 mod ReadLaws
 mod ToldLaws

@@ -3,7 +3,7 @@ use Rattle.std.proofs.Common.{◌≡◌, refl, sym, ◌∙◌, ℕ, ◌+◌, ◌
 use Rattle.std.specs.Prelude.{Ok, Err}
 use Rattle.std.proofs.lemmas.List.{at_drop_more, drop_all}
 use Rattle.answer_page.specs.declared.reading.Reading.{Reading}
-use Rattle.answer_page.specs.Cuts.{line_parts}
+use Rattle.line_cuts.specs.Cuts.{line_parts}
 use Rattle.answer_page.specs.Readings.{start, read_line, read_parts, read_answer, answer_of}
 
 -- a part more is read

@@ -1,12 +1,12 @@
 -- What a line of an answer says, by its fields.
 use Rattle.std.specs.Prelude.{ℕ, ◌+◌, ◌==◌, Bool, ◌&&◌, ◌||◌, if◌then◌else◌, List, length, Option, Some, None, option_map, is_some, pos, unsigned_abs, codes, bytes_eq}
 use Rattle.std.specs.Option.{option_or}
-use Rattle.feed_faults.specs.FieldGrammars.{amount_value, int_value}
+use Rattle.feed_faults.specs.FieldGrammars.{int_value}
 use Rattle.feed_rows.specs.RideWords.{start_value}
 use Rattle.plain_laws.specs.Plain.{given, given_last, when}
-use Rattle.answer_page.specs.Cuts.{field, fields_in}
+use Rattle.answer_page.specs.Amounts.{amount_in}
+use Rattle.line_cuts.specs.Cuts.{field, fields_in}
 use Rattle.answer_page.specs.Stamps.{date_in, stamp_in}
-use Rattle.answer_page.specs.declared.answer.Amount.{Amount}
 use Rattle.answer_page.specs.declared.answer.AnswerLine.{AnswerLine}
 use Rattle.answer_page.specs.declared.answer.AnswerLine.TheVariants as line
 use Rattle.answer_page.specs.declared.answer.Fare.{Fare}
@@ -29,10 +29,6 @@ is_line fields word count = (length fields == count) && bytes_eq (field fields 0
 -- a number of 32 bits
 unfoldable pub number_in : List ℕ → Option ℕ
 number_in text = given_last (int_value (pos 0) (pos 4_294_967_295) text) unsigned_abs
-
--- an amount, in thousandths of a whole
-unfoldable pub amount_in : List ℕ → Option Amount
-amount_in text = given_last (amount_value 3 text) (λ units. record { text = text; units = units })
 
 -- the head of an entry, of which the fields from a place on are arrival, rides, price and currency
 unfoldable pub head_in : List (List ℕ) → ℕ → Option Stamp → Option Head

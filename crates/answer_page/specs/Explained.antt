@@ -5,6 +5,7 @@ use Rattle.folder_io.specs.FolderCalls.{CountsFault}
 use Rattle.folder_io.specs.SinkCalls.{SinkState, Writes, is_failed_write}
 use Rattle.folder_io.specs.declared.sink.Wrote.{Wrote}
 use Rattle.folder_io.specs.declared.sink.Wrote.TheVariants as wrote
+use Rattle.answer_page.specs.OwnMarkup.{IsOwnMarkup}
 use Rattle.answer_page.specs.Pages.{page_html}
 use Rattle.answer_page.specs.Readings.{read_answer}
 use Rattle.answer_page.specs.declared.answer.Answer.{Answer}
@@ -16,6 +17,7 @@ use Rattle.answer_page.specs.declared.showing.Shown.TheVariants as shown
 pub record WritesPage (text : List ℕ) (words : List (List ℕ)) (names : Names) (sink after : SinkState) (wrote : Wrote) : Type 0 where
   pub answer : Answer
   pub is_read : read_answer text ≡ Ok answer
+  pub own : IsOwnMarkup (page_html words names answer)
   pub counts : CountsFault (is_failed_write wrote) sink.faults after.faults
   pub failed : after.failed ≡ is_failed_write wrote
   pub written : Writes sink.written after.written (page_html words names answer) wrote

@@ -47,5 +47,5 @@ abbrev pub next_after : ℕ → ℕ → ℕ
 next_after byte next = if byte == 36 then next + 1 else next
 
 -- a template with these values, in order
-abbrev pub filled : List ℕ → List Value → List ℕ
+unfoldable pub filled : List ℕ → List Value → List ℕ
 filled template values = threaded (λ next byte. part_html byte values next) (λ next byte. next_after byte next) 0 template

@@ -1,11 +1,12 @@
+pub mod Amounts
 pub mod AnswerLines
 pub mod Charts
-pub mod Cuts
 pub mod Explained
 pub mod Html
 pub mod Journeys
 pub mod LineNames
 pub mod Names
+pub mod OwnMarkup
 pub mod Pages
 pub mod Readings
 pub mod Scales

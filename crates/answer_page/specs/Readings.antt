@@ -1,10 +1,9 @@
 -- A text read as an answer, line by line.
 use Rattle.std.specs.Prelude.{◌≡◌, ℕ, ◌+◌, ◌==◌, Bool, true, false, ◌&&◌, ◌||◌, not, is_some, if◌then◌else◌, List, [], ◌∷◌, ◌++◌, length, count_by, fold, slice_get, ◌-◌, Option, Some, None, Result, Ok, Err, ℤ, pos, ◌+ℤ◌}
-use Rattle.std.specs.Int.{saturate_signed, w64}
 use Rattle.std.specs.Option.{option_map_or}
 use Rattle.plain_laws.specs.Plain.{given, when, int_same}
 use Rattle.answer_page.specs.AnswerLines.{line_in}
-use Rattle.answer_page.specs.Cuts.{line_parts}
+use Rattle.line_cuts.specs.Cuts.{line_parts}
 use Rattle.answer_page.specs.declared.answer.Answer.{Answer}
 use Rattle.answer_page.specs.declared.answer.AnswerLine.{AnswerLine}
 use Rattle.answer_page.specs.declared.answer.AnswerLine.TheVariants as line
@@ -55,9 +54,9 @@ fare_units (fare.Bought ticket) = ticket.amount.units
 fare_units (fare.Included ticket) = ticket.amount.units
 fare_units (fare.Change ticket) = ticket.amount.units
 
--- what all tickets cost, as far as 64 bits tell it
+-- what all tickets cost
 abbrev pub fares_sum : List Fare → ℤ
-fares_sum fares = fold (λ sum next. saturate_signed w64 (sum +ℤ fare_units next)) (pos 0) fares
+fares_sum fares = fold (λ sum next. sum +ℤ fare_units next) (pos 0) fares
 
 abbrev pub is_rider : Fare → Bool
 is_rider (fare.Rider rider) = true

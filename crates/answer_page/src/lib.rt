@@ -1,6 +1,7 @@
 //! An answer of the program as a page that a browser shows: its text read as journeys with their tickets, and the HTML of these.
 #![tactic(auto)]
 
+mod amounts;
 mod answer;
 mod chart;
 mod excerpt;

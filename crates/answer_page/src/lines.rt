@@ -1,43 +1,15 @@
 //! What a line of an answer says.
 ghost use Rattle.std.specs.Prelude.{◌≡◌, ◌<◌, map, IfOk};
-ghost use Rattle.answer_page.specs.Cuts.{fields_in, line_parts, field};
-ghost use Rattle.answer_page.specs.AnswerLines.{is_line, number_in, amount_in, is_run, head_in, range_in, walk_in, ride_in, rider_in, ticket_in, leg_in, is_product, change_in, step_in, fare_in, frame_in, line_of, line_in};
+ghost use Rattle.line_cuts.specs.Cuts.{field};
+ghost use Rattle.answer_page.specs.AnswerLines.{is_line, number_in, is_run, head_in, range_in, walk_in, ride_in, rider_in, ticket_in, leg_in, is_product, change_in, step_in, fare_in, frame_in, line_of, line_in};
 
-use crate::answer::{Amount, AnswerLine, Fare, Frame, Head, Ride, Rider, Step, Ticket, Walk};
+use crate::amounts::amount_in;
+use crate::answer::{AnswerLine, Fare, Frame, Head, Ride, Rider, Step, Ticket, Walk};
 use crate::excerpt::Excerpt;
 use crate::stamps::{Stamp, date_in, stamp_in};
-use feed_text::{amount_of, int_of, start_in};
+use feed_text::{int_of, start_in};
+use line_cuts::{field, fields_of};
 use std::alloc::{AllocError, Global};
-
-/// The parts of a text that line feeds part.
-///
-/// # Errors
-/// Want of memory.
-pub fn line_parts(alloc: Global, text: &[u8]) -> Result<Vec<&[u8]>, AllocError>
-    ensures { IfOk result (λ parts. map (λ part. part.now) parts.items ≡ line_parts text.now) }
-{
-    text.split(|byte| *byte == b'\n').collect(alloc)
-}
-
-/// The fields of a line that tabs part, its word first.
-///
-/// # Errors
-/// Want of memory.
-pub fn fields_of(alloc: Global, line: &[u8]) -> Result<Vec<&[u8]>, AllocError>
-    ensures { IfOk result (λ fields. map (λ field. field.now) fields.items ≡ fields_in line.now) }
-{
-    line.split(|byte| *byte == b'\t').collect(alloc)
-}
-
-/// The field at a place; empty where there is none.
-pub fn field<'t>(fields: &[&'t [u8]], place: usize) -> &'t [u8]
-    ensures { result.now ≡ field (map (λ text. text.now) fields.now) place }
-{
-    match fields.get(place) {
-        Some(text) => text,
-        None => &[],
-    }
-}
 
 // Whether the line has this word, and so many fields with it.
 fn is_line(fields: &[&[u8]], word: &[u8], count: usize) -> bool
@@ -53,18 +25,6 @@ fn number_in(text: &[u8]) -> Option<u64>
 {
     let value = int_of(text, 0, 4_294_967_295)?;
     Some(value.unsigned_abs())
-}
-
-// An amount, which is read as one of a currency with the most decimals, so that its units are thousandths whatever the currency is.
-#[tactic(auto, unfolding(crate::specs::AnswerLines::amount_in))]
-fn amount_in(text: &[u8]) -> Option<Amount<'_>>
-    ensures { result ≡ amount_in text.now }
-{
-    let units = amount_of(text, 3)?;
-    Some(Amount {
-        text: Excerpt::of(text),
-        units: units.0,
-    })
 }
 
 // The head of an entry, of which the fields from a place on are arrival, rides, price and currency.

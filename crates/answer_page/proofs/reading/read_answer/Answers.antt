@@ -1,7 +1,7 @@
 use Rattle.std.proofs.Common.{◌≡◌, ◌∙◌, ◌<◌, ap, map, length, get_or, [], List, ℕ, Bor, arith}
 use Rattle.std.proofs.lemmas.List.{length-map}
 use Rattle.std.proofs.lemmas.Option.{unwrap_or-slice_get}
-use Rattle.answer_page.specs.Cuts.{field}
+use Rattle.line_cuts.specs.Cuts.{field}
 use Rattle.answer_page.specs.Readings.{read_line}
 use Rattle.answer_page.proofs.ReadLaws.{part_read, part_wrong, all_read, ends_early, begins}
 use Rattle.answer_page.proofs.reading.read_answer.Goals as goal

@@ -1,8 +1,6 @@
-use Rattle.std.proofs.Common.{◌∙◌, ◌++◌, ℕ, List, sym, ap, get_or, take, take_all}
-use Rattle.std.proofs.lemmas.List.{take_more}
-use Rattle.answer_page.specs.Html.{filled, markup_of, part_html, next_after}
+use Rattle.std.proofs.Common.{◌∙◌, ◌++◌, ℕ, List, sym, ap, get_or}
+use Rattle.answer_page.specs.Html.{filled, part_html, next_after}
 use Rattle.answer_page.proofs.FillLaws.{item_more, none_left, next_within}
-use Rattle.answer_page.proofs.MarkupLaws.{template_more}
 use Rattle.answer_page.proofs.page.Page.fill.Goals as goal
 
 pub loop-byte-preserved : goal.loop-byte-preserved
@@ -11,20 +9,12 @@ loop-byte-preserved c =
     let i = c.loop-byte.byte-index in
     let f : ℕ → ℕ → List ℕ = λ next byte. part_html byte c.args.values.now next in
     let after : ℕ → ℕ → ℕ = λ next byte. next_after byte next in
-    let more = item_more f after c.loop-byte.self items c.loop-byte.next i 0 c.loop-byte-test.true ∙ c.loop-byte.invariant.0 in
-    let template = template_more c.args.self.now c.loop-byte.self (take i items) (get_or items i 0) c.loop-byte.invariant.2 in (
+    let more = item_more f after c.loop-byte.self items c.loop-byte.next i 0 c.loop-byte-test.true ∙ c.loop-byte.invariant.0 in (
       rw (c.in_ok-next.ensures.html, c.in_ok-next.ensures.next) more,
       rw c.in_ok-next.ensures.next (next_within (get_or items i 0) c.loop-byte.next i c.loop-byte.invariant.1),
-      c.in_ok-next.ensures.markup ∙ template
-          ∙ ap (λ part. markup_of c.args.self.now ++ markup_of part) (sym (take_more items i 0 c.loop-byte-test.true)),
     )
 
-pub returns-clause-html : goal.returns-clause-html
-returns-clause-html c =
+pub returns : goal.returns
+returns c =
     sym (none_left (λ next byte. part_html byte c.args.values.now next) (λ next byte. next_after byte next) c.loop-byte.self c.as_bytes-byte-items.result.now c.loop-byte.next c.loop-byte.byte-index c.loop-byte-test.false)
     ∙ c.loop-byte.invariant.0 ∙ ap (λ template. c.args.self.now ++ filled template c.args.values.now) c.as_bytes-byte-items.ensures.value
-
-pub returns-clause-markup : goal.returns-clause-markup
-returns-clause-markup c =
-    c.loop-byte.invariant.2
-    ∙ ap (λ template. markup_of c.args.self.now ++ markup_of template) (take_all c.loop-byte.byte-index c.as_bytes-byte-items.result.now c.loop-byte-test.false ∙ c.as_bytes-byte-items.ensures.value)
