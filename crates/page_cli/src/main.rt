@@ -3,6 +3,7 @@
 #![tactic(auto)]
 
 mod program;
+mod text_input;
 
 use program::{exit_code, run_program, tell};
 use std::process::ExitCode;

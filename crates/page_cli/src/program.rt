@@ -1,127 +1,116 @@
 //! The program below its `main`.
-ghost use Rattle.std.specs.Prelude.{◌≡◌, IfOk};
+ghost use Rattle.std.specs.Prelude.{◌≡◌, IfErr, IfOk, map, string_bytes};
 ghost use Rattle.std.specs.Process.{exit_status};
-ghost use Rattle.page_cli.specs.ExitNumbers.{IsRun, IsRunOf, shown_number, unshown_number, exit_number};
+ghost use Rattle.plan_arguments.specs.declared.arguments.ArgumentError.TheVariants.{NoMemory};
+ghost use Rattle.page_cli.specs.Runs.{Comes, IsRun, IsRunOf, came_number, exit_number, input_failed};
 
-use answer_page::{Names, Shown, read_names, show};
-use folder_io::{DirFolder, ReadError, StdSink};
-use plan_arguments::{ArgumentError, Command, command_of, read_arguments};
+use crate::text_input::TextInput;
+use answer_page::{Shown, read_names, show};
+use folder_io::{DirFolder, Folder, ReadError, Sink, StdSink};
+use plan_arguments::{ArgumentError, WordList, command_of, read_arguments};
 use std::alloc::Global;
-use std::io::{ErrorKind, Read};
 use std::process::ExitCode;
 use std::rt::{Env, Files};
 
-/// Why nothing was shown.
-#[derive(Clone, Copy, PartialEq, Eq)]
-pub enum Unshown {
-    /// The arguments can't be had.
-    Arguments(ArgumentError),
-    /// The text, or a file of the folder, can't be read.
-    Read(ReadError),
-}
-
-/// What a run came to: what was shown, and the output as it left it, so that contracts can tell of it.
+/// What a run came to: what was shown, or why a read gave up, and the input, the folder and the output as it left them, so that
+/// contracts can tell of them.
 #[derive(Drop)]
-pub struct Ran<R: Print + Clone + Drop> {
-    pub shown: Shown,
+pub struct Ran<R: Input + Files + Print + Clone + Drop> {
+    pub came: Result<Shown, ReadError>,
+    pub input: TextInput<R>,
+    pub folder: DirFolder<R>,
     pub output: StdSink<R>,
 }
 
-// The text on standard input.
-fn read_text<R: Input>(rt: &R, alloc: Global) -> Result<Vec<u8>, ReadError> {
-    let mut bytes = Vec::new(alloc);
-    let mut reader = rt.reader();
-    match reader.read_to_end(&mut bytes) {
-        Ok(_) => Ok(bytes),
-        Err(error) => match error.kind() {
-            ErrorKind::OutOfMemory => Err(ReadError::NoMemory),
-            _ => Err(ReadError::ReadFault),
-        },
-    }
+// Shows the text of the input, with the names of the folder and these words.
+fn show_text<R: Input + Clone + Drop, F: Folder, S: Sink>(
+    alloc: Global,
+    words: &WordList,
+    input: &mut TextInput<R>,
+    folder: &mut F,
+    sink: &mut S,
+) -> Result<Shown, ReadError>
+    ensures source { (F.state folder.new).source ≡ (F.state folder.old).source }
+    ensures comes { Comes words.now (input_failed input.new) (F.state folder.old) (F.state folder.new) (S.state sink.old) (S.state sink.new) result }
+{
+    let text = input.read(alloc)?;
+    let names = read_names(alloc, folder)?;
+    Ok(show(alloc, text.as_slice(), words, &names, sink))
 }
 
-// The names that the files of a folder of the system give.
-fn names_in<R: Files + Clone + Drop>(rt: R, alloc: Global, path: &str) -> Result<Names, ReadError> {
-    let mut folder = DirFolder::new(rt, alloc, path)?;
-    read_names(alloc, &mut folder)
-}
-
-// Shows the text on standard input, with the names of the folder, on standard output.
-fn show_text<R: Input + Files + Print + Copy>(
+// Shows the text on standard input, with the names of the folder and the words that the arguments name, on standard output.
+fn run_on<R: Input + Files + Print + Copy>(
     rt: R,
     alloc: Global,
-    command: &Command,
-) -> Result<Ran<R>, ReadError>
-    ensures { IfOk result (IsRunOf command.now.words) }
+    arguments: &[String],
+) -> Result<Ran<R>, ArgumentError>
+    ensures ran { IfOk result (IsRunOf (map string_bytes arguments.now)) }
+    ensures why { IfErr result (λ error. error ≡ NoMemory) }
 {
-    let text = read_text(&rt, alloc)?;
-    let names = names_in(rt, alloc, command.path.as_str())?;
+    let Ok(command) = command_of(alloc, arguments) else {
+        return Err(ArgumentError::NoMemory);
+    };
+    let Ok(mut folder) = DirFolder::new(rt, alloc, command.path.as_str()) else {
+        return Err(ArgumentError::NoMemory);
+    };
+    let mut input = TextInput::new(rt);
     let mut output = StdSink::new(rt);
-    let shown = show(alloc, text.as_slice(), &command.words, &names, &mut output);
-    Ok(Ran { shown, output })
+    let came = show_text(alloc, &command.words, &mut input, &mut folder, &mut output);
+    Ok(Ran {
+        came,
+        input,
+        folder,
+        output,
+    })
 }
 
 /// Shows the text on standard input, with the names of the folder and the words that the program's arguments name, on standard
 /// output.
 ///
 /// # Errors
-/// Arguments, a text or a file that can't be read; want of memory before the text is shown.
+/// Want of memory before the run; arguments that can't be read.
 pub fn run_program<R: Env + Input + Files + Print + AllocGlobal + Copy>(
     rt: R,
-) -> Result<Ran<R>, Unshown>
+) -> Result<Ran<R>, ArgumentError>
     ensures { IfOk result IsRun }
 {
-    let arguments = match read_arguments(&rt) {
-        Ok(arguments) => arguments,
-        Err(error) => return Err(Unshown::Arguments(error)),
-    };
-    let Ok(command) = command_of(rt.alloc(), arguments.as_slice()) else {
-        return Err(Unshown::Arguments(ArgumentError::NoMemory));
-    };
-    match show_text(rt, rt.alloc(), &command) {
-        Ok(ran) => Ok(ran),
-        Err(error) => Err(Unshown::Read(error)),
-    }
+    let arguments = read_arguments(&rt)?;
+    run_on(rt, rt.alloc(), arguments.as_slice())
 }
 
 /// Tells on standard error which line of the text was refused, if one was.
-pub fn tell<R: Print + Eprint + Clone + Drop>(rt: &R, came: &Result<Ran<R>, Unshown>) {
+pub fn tell<R: Input + Files + Print + Eprint + Clone + Drop>(
+    rt: &R,
+    came: &Result<Ran<R>, ArgumentError>,
+) {
     if let Ok(ran) = came {
-        if let Shown::Refused(line) = ran.shown {
+        if let Ok(Shown::Refused(line)) = ran.came {
             let _ = eprintln!(rt; "refused\t{line}");
         }
     }
 }
 
-// The number with which the program ends after showing a text.
-fn shown_number(shown: Shown) -> u8
-    ensures { result ≡ shown_number shown }
+// The number with which the program ends after a run.
+fn came_number(came: Result<Shown, ReadError>) -> u8
+    ensures { result ≡ came_number came }
 {
-    match shown {
-        Shown::Whole => 0,
-        Shown::Refused(_) => 3,
-        Shown::WriteFault => 5,
-        Shown::NoMemory => 6,
+    match came {
+        Ok(Shown::Whole) => 0,
+        Ok(Shown::Refused(_)) => 3,
+        Ok(Shown::WriteFault) => 5,
+        Err(ReadError::ReadFault) => 4,
+        Ok(Shown::NoMemory) | Err(ReadError::NoMemory) => 6,
     }
 }
 
-// And where it shows none.
-fn unshown_number(error: Unshown) -> u8
-    ensures { result ≡ unshown_number error }
-{
-    match error {
-        Unshown::Arguments(error) => error.number(),
-        Unshown::Read(ReadError::ReadFault) => 4,
-        Unshown::Read(ReadError::NoMemory) => 6,
-    }
-}
-
-/// The code with which the program ends.
-pub fn exit_code<R: Print + Clone + Drop>(came: &Result<Ran<R>, Unshown>) -> ExitCode
+/// The code with which the program ends: that of the run, or of why there was none.
+pub fn exit_code<R: Input + Files + Print + Clone + Drop>(
+    came: &Result<Ran<R>, ArgumentError>,
+) -> ExitCode
     ensures { exit_status result ≡ exit_number came.now }
 {
     match came {
-        Ok(ran) => ExitCode::from(shown_number(ran.shown)),
-        Err(error) => ExitCode::from(unshown_number(*error)),
+        Ok(ran) => ExitCode::from(came_number(ran.came)),
+        Err(error) => ExitCode::from(error.number()),
     }
 }
