@@ -7,7 +7,7 @@ use Rattle.std.proofs.lemmas.List.Folds.{list_any-append}
 use Rattle.std.proofs.lemmas.List.Splits.{slice_split_at, slice_split_none}
 use Rattle.feed_rows.specs.Lines.{line, fields_text}
 use Rattle.plain_laws.proofs.Laws.{none_holds, or_false}
-use Rattle.ticket_read.specs.Cuts.{line_parts, lines_in, fields_in}
+use Rattle.line_cuts.specs.Cuts.{line_parts, lines_in, fields_in}
 use Rattle.ticket_read.proofs.PlainTexts.{is_end, IsPlain, ArePlain}
 
 -- each field behind a tab

@@ -20,7 +20,7 @@ use Rattle.feed_rows.specs.declared.journeys.Query.{Query}
 use Rattle.feed_laws.proofs.JourneyLaws.{travelled_of_journey, journey_of_travelled}
 use Rattle.plain_laws.specs.Plain.{after, given, given_last}
 use Rattle.plain_laws.proofs.Laws.{after-append, int_le-true, le-int_le}
-use Rattle.ticket_read.specs.Cuts.{lines_in, fields_in}
+use Rattle.line_cuts.specs.Cuts.{lines_in, fields_in}
 use Rattle.ticket_read.specs.Drafts.{empty_draft, with_item}
 use Rattle.ticket_read.specs.EntryTexts.{IsTextOf, HasOneListByText}
 use Rattle.ticket_read.specs.Items.{item_of}

@@ -46,7 +46,7 @@ use Rattle.plain_laws.proofs.Laws.{All-slice_get, cond_gives, filled_and-true, b
 use Rattle.feed_laws.proofs.CallLaws.{calls_of_row}
 use Rattle.feed_laws.proofs.RideLaws.{ride_facts_tells}
 use Rattle.feed_laws.proofs.SoundTrips.{sound_trip, row_at}
-use Rattle.ticket_read.specs.Cuts.{fields_in}
+use Rattle.line_cuts.specs.Cuts.{fields_in}
 use Rattle.ticket_read.specs.Items.{number_in, row_in, day_in, place_in, run_of, ride_of, ride_item, stop_in, stay_item, walk_item, leg_item, change_row, change_item, item_of}
 use Rattle.ticket_read.specs.declared.drafts.Item.{Item}
 use Rattle.ticket_read.specs.declared.drafts.Item.TheVariants as item

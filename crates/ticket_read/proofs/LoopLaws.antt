@@ -17,7 +17,7 @@ use Rattle.feed_rows.specs.declared.journeys.Ride.{Ride}
 use Rattle.feed_rows.specs.declared.journeys.RideFacts.{RideFacts}
 use Rattle.transit_base.specs.declared.numbers.StopId.{StopId}
 use Rattle.plain_laws.specs.Plain.{after, after_first, collect_below, given, given_last}
-use Rattle.ticket_read.specs.Cuts.{line_parts, field}
+use Rattle.line_cuts.specs.Cuts.{line_parts, field}
 use Rattle.ticket_read.specs.Readings.{start, closed, read_line, read_entries}
 use Rattle.ticket_read.specs.declared.reader.Reading.{Reading}
 use Rattle.plain_laws.proofs.Laws.{after_first-append, after_first-all, collect_below_tells, collect_below_more}

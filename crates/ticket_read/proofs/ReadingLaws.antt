@@ -9,7 +9,7 @@ use Rattle.feed_rows.specs.declared.fares.Entry.{Entry}
 use Rattle.feed_rows.specs.declared.journeys.Query.{Query}
 use Rattle.plain_laws.specs.Plain.{joined_below, after}
 use Rattle.plain_laws.proofs.Laws.{after-append}
-use Rattle.ticket_read.specs.Cuts.{fields_in}
+use Rattle.line_cuts.specs.Cuts.{fields_in}
 use Rattle.ticket_read.specs.Drafts.{with_item}
 use Rattle.ticket_read.specs.Items.{item_of}
 use Rattle.ticket_read.specs.Readings.{with_draft, read_line}

@@ -14,7 +14,7 @@ use Rattle.feed_rows.specs.RideWords.{start_value}
 use Rattle.feed_rows.specs.WordValues.{day_value}
 use Rattle.feed_faults.specs.FieldGrammars.{int_value}
 use Rattle.plain_laws.specs.Plain.{given, given_last}
-use Rattle.ticket_read.specs.Cuts.{field}
+use Rattle.line_cuts.specs.Cuts.{field}
 use Rattle.ticket_read.specs.declared.drafts.Item.{Item}
 use Rattle.ticket_read.specs.declared.drafts.Item.TheVariants as item
 

@@ -1,4 +1,3 @@
-pub mod Cuts
 pub mod Drafts
 pub mod EntryTexts
 pub mod Items

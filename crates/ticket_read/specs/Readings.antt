@@ -4,7 +4,7 @@ use Rattle.feed_rows.specs.declared.journeys.Query.{Query}
 use Rattle.feed_rows.specs.declared.fares.Entry.{Entry}
 use Rattle.feed_rows.specs.FeedRows.{FeedRows}
 use Rattle.plain_laws.specs.Plain.{given, given_last, after}
-use Rattle.ticket_read.specs.Cuts.{lines_in, fields_in}
+use Rattle.line_cuts.specs.Cuts.{lines_in, fields_in}
 use Rattle.ticket_read.specs.Drafts.{empty_draft, with_item}
 use Rattle.ticket_read.specs.Items.{item_of}
 use Rattle.ticket_read.specs.Judgement.{entry_of}

@@ -3,15 +3,15 @@ ghost use Rattle.std.specs.Prelude.{◌≡◌, ◌<◌, ◌≤◌, map, pos, IfO
 ghost use Rattle.transit_base.specs.Limits.{most_time};
 ghost use Rattle.feed_rows.specs.Rides.{ride_facts};
 ghost use Rattle.feed_rows.specs.RowsById.{find_trip};
-ghost use Rattle.ticket_read.specs.Cuts.{field, fields_in};
+ghost use Rattle.line_cuts.specs.Cuts.{field, fields_in};
 ghost use Rattle.ticket_read.specs.Items.{number_in, row_in, day_in, shift_by, place_in, stop_in, run_of, ride_of, ride_item, walk_item, stay_item, leg_item, change_row, change_item, item_of};
 
-use crate::cuts::{field, fields_of};
 use crate::drafts::Item;
 use crate::journeys::facts_of;
 use feed_rows::{ChangeChoice, LegChoice, Ride};
 use feed_text::{day_of_parts, int_of, start_in};
 use feed_timetable::Timetable;
+use line_cuts::{field, fields_of};
 use std::alloc::{AllocError, Global};
 use transit_base::{Day, ProductRowId, RuleId, StopId, TripId, XferId};
 

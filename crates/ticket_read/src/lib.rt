@@ -1,7 +1,6 @@
 //! The printed text of an answer, read back: which entries of a query a text tells, if it is the text of any.
 #![tactic(auto)]
 
-mod cuts;
 mod drafts;
 mod entries;
 mod items;

@@ -11,7 +11,6 @@ ghost use Rattle.feed_rows.specs.declared.fares.Entry.{Entry};
 ghost use Rattle.ticket_read.specs.EntryTexts.{IsTextOf};
 ghost use Rattle.ticket_read.specs.Readings.{start, closed, begun, told, read_line, read_entries};
 
-use crate::cuts::{field, line_parts};
 use crate::drafts::{Draft, Item};
 use crate::items::item_in;
 use crate::journeys::{arrival_of, legs_of};
@@ -20,6 +19,7 @@ use fare_price::{Fares, verify};
 use fare_timeframes::Timeframes;
 use feed_rows::{Choice, Entries, Entry, Journey, Query, Ride, Triple};
 use feed_timetable::Timetable;
+use line_cuts::{field, line_parts};
 use std::alloc::{AllocError, Global};
 use std::marker::Model;
 use transit_base::Money;
