@@ -1,5 +1,5 @@
 -- What stands for a value is no markup, so that the markup of a filled template is the template's.
-use Rattle.std.proofs.Common.{◌≡◌, refl, sym, ◌∙◌, ℕ, ◌+◌, ◌%◌, ◌/◌, ◌<◌, ◌==◌, suc, zero, List, [], ◌∷◌, ◌++◌, Bool, true, false, arith, Option, Some, None, if◌then◌else◌}
+use Rattle.std.proofs.Common.{◌≡◌, refl, sym, ◌∙◌, ℕ, ◌%◌, ◌/◌, ◌<◌, ◌==◌, suc, zero, List, [], ◌∷◌, ◌++◌, Bool, true, false, arith, Option, Some, None, if◌then◌else◌}
 use Rattle.std.specs.Prelude.{decimal, slice_get}
 use Rattle.std.specs.Fmt.{digit_glyph, digits, digits_onto}
 use Rattle.std.specs.List.{flat_map}

@@ -11,13 +11,13 @@ use Rattle.answer_page.specs.Charts.{start_html as mark_start_html, label_html, 
 use Rattle.answer_page.specs.Html.{filled, markup_of}
 use Rattle.answer_page.specs.Journeys.{leave_html, start_html, end_html, head_html, journey_html}
 use Rattle.answer_page.specs.LineNames.{line_colour, line_name, stop_name}
-use Rattle.answer_page.specs.OwnMarkup.{templates, Piece, piece_html, IsInert, IsOwnMarkup}
+use Rattle.answer_page.specs.OwnMarkup.{templates, Piece, piece_html, IsOwnMarkup}
 use Rattle.answer_page.specs.Pages.{word_html, question_html, page_date, times, journeys_html, labels_html, page_html}
 use Rattle.answer_page.specs.Scales.{share_of, rest_of}
 use Rattle.answer_page.specs.Stamps.{time_html}
 use Rattle.answer_page.specs.Threads.{threaded}
-use Rattle.answer_page.specs.Tickets.{change_template, ticket_html, rider_html, fare_html, tickets_html}
-use Rattle.answer_page.specs.Ways.{leave_at, end_of, ride_bar_html, walk_bar_html, bar_html, bars_html, walk_html, wait_html, ride_html, step_html, way_html}
+use Rattle.answer_page.specs.Tickets.{change_template, fare_html, tickets_html}
+use Rattle.answer_page.specs.Ways.{leave_at, end_of, bar_html, bars_html, wait_html, ride_html, step_html, way_html}
 use Rattle.answer_page.specs.declared.answer.Answer.{Answer}
 use Rattle.answer_page.specs.declared.answer.Entry.{Entry}
 use Rattle.answer_page.specs.declared.answer.Fare.{Fare}

@@ -1,5 +1,6 @@
 -- A journey on a page.
-use Rattle.std.specs.Prelude.{ℕ, List, [], ◌∷◌, ◌++◌, Option, Some, None}
+use Rattle.std.specs.Prelude.{ℕ, List, [], ◌∷◌, ◌++◌, Option, Some, None, slice_get, ◌+◌}
+use Rattle.std.specs.Option.{option_map_or}
 use Rattle.answer_page.specs.Html.{filled}
 use Rattle.answer_page.specs.Stamps.{time_html}
 use Rattle.answer_page.specs.Tickets.{tickets_html}
@@ -34,3 +35,7 @@ unfoldable pub journey_html : Names → List ℕ → Scale → ℕ → Entry →
 journey_html names date times number entry =
     head_html date number entry.head ++ bars_html names times number entry ++ way_html names date entry
     ++ tickets_html entry ++ filled JOURNEY_END.now []
+
+-- the journey at a place, whose number counts from 1; nothing where there is none
+abbrev pub journey_at : Names → List ℕ → Scale → List Entry → ℕ → List ℕ
+journey_at names date times entries place = option_map_or (journey_html names date times (place + 1)) (slice_get entries place) []

@@ -1,6 +1,6 @@
 //! A journey on the page: its head, its line through time, its way and its tickets.
-ghost use Rattle.std.specs.Prelude.{◌≡◌, ◌++◌, OnOk};
-ghost use Rattle.answer_page.specs.Journeys.{start_html, leave_html, end_html, head_html, journey_html};
+ghost use Rattle.std.specs.Prelude.{◌≡◌, ◌<◌, ◌++◌, OnOk, length};
+ghost use Rattle.answer_page.specs.Journeys.{start_html, leave_html, end_html, head_html, journey_html, journey_at};
 
 use crate::answer::{Entry, Head};
 use crate::markup::{ALSO, ARRIVES, HEAD_END, JOURNEY_END, JOURNEY_START, LEAVES};
@@ -65,18 +65,23 @@ fn write_head(page: &mut Page, date: &[u8], number: u64, head: &Head<'_>) -> Res
     write_end(page, head)
 }
 
-/// Adds a journey, which is the one of this number.
+/// Adds the journey at a place, whose number counts from 1.
 #[tactic(auto, unfolding(crate::specs::Journeys::journey_html))]
 pub fn write_journey(
     page: &mut Page,
     names: &Names,
     date: &[u8],
     times: Scale,
-    number: u64,
-    entry: &Entry<'_>,
+    entries: &[Entry<'_>],
+    place: usize,
 ) -> Result<(), AllocError>
-    ensures { OnOk result (page.new ≡ page.old ++ journey_html names.now date.now times number entry.now) }
+    requires { place < length entries.now }
+    ensures { OnOk result (page.new ≡ page.old ++ journey_at names.now date.now times entries.now place) }
 {
+    let Some(entry) = entries.get(place) else {
+        return Ok(());
+    };
+    let number = place as u64 + 1;
     write_head(page, date, number, &entry.head)?;
     write_bars(page, names, times, number, entry)?;
     write_way(page, names, date, entry)?;

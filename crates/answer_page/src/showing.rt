@@ -95,8 +95,8 @@ fn write_entries(page: &mut Page, names: &Names, entries: &[Entry<'_>]) -> Resul
 {
     let date = page_date(entries);
     let times = times(entries);
-    for (place, entry) in entries.iter().enumerate() {
-        write_journey(page, names, date, times, place as u64 + 1, entry)?;
+    for place in 0..entries.len() {
+        write_journey(page, names, date, times, entries, place)?;
     }
     Ok(())
 }
