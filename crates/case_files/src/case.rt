@@ -12,8 +12,9 @@ use plan_arguments::WordList;
 use std::alloc::{AllocError, Global};
 
 // The sections of a case that are no files.
-const SECTIONS: [&str; 7] = [
+const SECTIONS: [&str; 8] = [
     "words",
+    "stdin",
     "status",
     "stdout",
     "journey lines",
@@ -82,6 +83,11 @@ impl Case {
     /// The words.
     pub fn words(&self) -> &WordList {
         &self.words
+    }
+
+    /// The text that is given; empty where there is none.
+    pub fn input(&self) -> &[u8] {
+        self.sections.text_of("stdin").unwrap_or(&[])
     }
 
     /// The calls that fail in turn, each in a run of its own.

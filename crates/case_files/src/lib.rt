@@ -1,4 +1,4 @@
-//! Cases that are files: words, the files of a feed, calls that fail, and what must come; and how a program is tried on them.
+//! Cases that are files: words, a text that is given, the files of a feed, calls that fail, and what must come; and how a program is tried on them.
 #![tactic(auto)]
 
 mod archive;

@@ -8,8 +8,14 @@ use std::alloc::{AllocError, Global};
 
 /// The program that is tried.
 pub trait Program {
-    /// Runs the words over a folder, and writes to a sink. Answers the status.
-    fn run(alloc: Global, words: &WordList, folder: &mut MemFolder, sink: &mut MemSink) -> u8;
+    /// Runs the words over a text that is given and a folder, and writes to a sink. Answers the status.
+    fn run(
+        alloc: Global,
+        words: &WordList,
+        input: &[u8],
+        folder: &mut MemFolder,
+        sink: &mut MemSink,
+    ) -> u8;
 }
 
 // More bytes than any case writes.
@@ -53,6 +59,6 @@ fn outcome_of<P: Program>(
     let mut sink = MemSink::new(alloc, ROOM, call.write.as_slice())?;
     let files = case.files(alloc)?;
     let mut folder = MemFolder::new(alloc, files, call.open.as_slice(), call.read.as_slice())?;
-    let status = P::run(alloc, case.words(), &mut folder, &mut sink);
+    let status = P::run(alloc, case.words(), case.input(), &mut folder, &mut sink);
     Ok(Outcome { run, status, sink })
 }

@@ -15,7 +15,13 @@ use std::process::ExitCode;
 struct Farewise;
 
 impl Program for Farewise {
-    fn run(alloc: Global, words: &WordList, folder: &mut MemFolder, sink: &mut MemSink) -> u8 {
+    fn run(
+        alloc: Global,
+        words: &WordList,
+        _input: &[u8],
+        folder: &mut MemFolder,
+        sink: &mut MemSink,
+    ) -> u8 {
         run(alloc, words, folder, sink).number()
     }
 }
