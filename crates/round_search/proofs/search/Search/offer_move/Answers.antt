@@ -1,0 +1,32 @@
+use Rattle.std.proofs.Common.{sym, ◌∙◌, ap, subst, ◌<◌}
+use Rattle.plan_rides.proofs.DepartureLaws.{ride_end}
+use Rattle.search_laws.proofs.SpreadLaws.{spreads_taken}
+use Rattle.round_search.specs.Bags.{in_bags}
+use Rattle.round_search.specs.Labels.{facts_of}
+use Rattle.round_search.specs.Searches.{Asked, IsNever, search_of}
+use Rattle.round_search.proofs.LawfulLaws.{cover_test, ways_lawful}
+use Rattle.round_search.proofs.RideLaws.{after_is, fresh_after, went_on}
+use Rattle.round_search.proofs.search.Search.offer_move.Goals as goal
+
+pub offer-requires : goal.offer-requires
+offer-requires g c =
+    subst (λ n. c.args.caught.now.facts.to.0 < n) (sym c.requires.stops)
+    (ride_end c.args.self.now.feed c.args.caught.now.ride c.args.caught.now.facts c.feed-feed.ensures.sound c.requires.right.facts)
+
+pub returns-clause-spreads : goal.returns-clause-spreads
+returns-clause-spreads g c =
+    let at_most = g.T.Fare.LabelOrder.at_most in
+    let t = g.T.Tariff.terms c.args.self.now.tariff in
+    let feed = c.args.self.now.feed in
+    let query = c.args.self.now.query in
+    let laws = g.met.T.Fare.LabelOrder.laws in
+    let lawful = g.met.T.Tariff.lawful c.args.self.now.tariff in
+    let source = c.args.source.now in
+    let caught = c.args.caught.now in
+    let taken = c.args.taken.now in
+    spreads_taken (search_of at_most t feed query) (ways_lawful at_most t laws lawful feed query) (cover_test at_most t laws lawful feed query)
+    IsNever _ _ c.offer.result (in_bags c.args.bags.now) (in_bags c.offer.new.self) _
+    (went_on at_most t laws lawful feed query source c.requires.source caught c.requires.right taken) c.offer.ensures.takes
+    (after_is at_most t laws lawful feed query source c.requires.source caught c.requires.right taken c.after.result
+    (c.after.ensures ∙ ap (λ (a : Asked _). (g.T.Tariff.terms a.tariff).after (facts_of source.label.now) caught.facts taken) c.self.view_is))
+    (fresh_after at_most t laws lawful feed query source c.requires.source caught c.requires.right taken c.feed-feed.ensures.sound c.requires.pays)

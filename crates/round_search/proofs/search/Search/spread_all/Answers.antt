@@ -1,0 +1,108 @@
+use Rattle.std.proofs.Common.{◌≡◌, refl, sym, ◌∙◌, subst, ◌+◌, ◌<◌, ◌^◌, ◌++◌, length, arith}
+use Rattle.search_laws.specs.Links.{CoversStarts}
+use Rattle.search_laws.specs.Stores.{AreClosedTo, AreStored, Spreads, StepsFrom}
+use Rattle.search_laws.proofs.StoreLaws.{closed_more, few_more, fit_more, starts_more, stored_more}
+use Rattle.round_search.specs.Bags.{gathered, in_bags}
+use Rattle.round_search.specs.Searches.{AreLast, IsGathered, IsNever, search_of, told}
+use Rattle.round_search.specs.Steps.{ways}
+use Rattle.round_search.proofs.LawfulLaws.{cover_test}
+use Rattle.round_search.proofs.RoundLaws.{ending_of, gathered_rides, searched_of}
+use Rattle.round_search.proofs.SourceLaws.{last_more}
+use Rattle.round_search.proofs.search.Search.spread_all.Goals as goal
+
+pub loop-count-init : goal.loop-count-init
+loop-count-init g c = record { are = c.requires.start; stops = c.requires.stops }
+
+pub spread-requires-clause-stored : goal.spread-requires-clause-stored
+spread-requires-clause-stored g c =
+    let at_most = g.T.Fare.LabelOrder.at_most in
+    let t = g.T.Tariff.terms c.args.self.now.tariff in
+    let feed = c.args.self.now.feed in
+    let query = c.args.self.now.query in
+    subst (λ ls. AreStored (search_of at_most t feed query) (c.loop-count.count + 1) ls (in_bags c.loop-count.bags)) (sym c.deref.ensures.value)
+    c.loop-count.invariant.are.stored
+
+pub spread-requires-clause-last : goal.spread-requires-clause-last
+spread-requires-clause-last g c =
+    subst (AreLast c.loop-count.count c.loop-count.begin) (sym c.deref.ensures.value) c.loop-count.invariant.are.last
+
+pub spread-requires-clause-numbers : goal.spread-requires-clause-numbers
+spread-requires-clause-numbers g c =
+    subst (λ ls. length ls < 2 ^ 32) (sym c.deref.ensures.value) c.loop-count.invariant.are.numbers
+
+pub spread-requires-clause-stops : goal.spread-requires-clause-stops
+spread-requires-clause-stops g c = c.loop-count.invariant.stops
+
+pub gather-requires-clause-ending : goal.gather-requires-clause-ending
+gather-requires-clause-ending g c =
+    let at_most = g.T.Fare.LabelOrder.at_most in
+    let t = g.T.Tariff.terms c.args.self.now.tariff in
+    let feed = c.args.self.now.feed in
+    let query = c.args.self.now.query in
+    let laws = g.met.T.Fare.LabelOrder.laws in
+    let lawful = g.met.T.Tariff.lawful c.args.self.now.tariff in
+    let s = search_of at_most t feed query in
+    let test = cover_test at_most t laws lawful feed query in
+    let was = c.loop-count.invariant.are in
+    let count = c.loop-count.count in
+    let labels = c.loop-count.labels.items in
+    let new = in_bags c.spread.new.bags in
+    let spreads =
+    subst (λ ls. Spreads s IsNever ls (count + 1) (StepsFrom s ls count) (in_bags c.loop-count.bags) new) c.deref.ensures.value
+    c.in_ok-spread.ensures.spreads in
+    ending_of t feed query (labels ++ gathered (count + 1) new) c.limit-count-end.ensures.usual
+    (few_more s test IsNever (count + 1) labels _ (in_bags c.loop-count.bags) new was.stored spreads query.rides
+    (omega (arith, c.loop-count-test.true, c.limit-count-end.ensures.is)))
+    (fit_more s test IsNever (count + 1) labels _ (in_bags c.loop-count.bags) new was.stored spreads)
+
+pub gather-requires-clause-ended : goal.gather-requires-clause-ended
+gather-requires-clause-ended g c = c.loop-count.invariant.are.ended
+
+pub loop-count-preserved : goal.loop-count-preserved
+loop-count-preserved g c =
+    let at_most = g.T.Fare.LabelOrder.at_most in
+    let t = g.T.Tariff.terms c.args.self.now.tariff in
+    let feed = c.args.self.now.feed in
+    let query = c.args.self.now.query in
+    let laws = g.met.T.Fare.LabelOrder.laws in
+    let lawful = g.met.T.Tariff.lawful c.args.self.now.tariff in
+    let s = search_of at_most t feed query in
+    let test = cover_test at_most t laws lawful feed query in
+    let was = c.loop-count.invariant.are in
+    let count = c.loop-count.count in
+    let labels = c.loop-count.labels.items in
+    let new = in_bags c.spread.new.bags in
+    let spreads =
+    subst (λ ls. Spreads s IsNever ls (count + 1) (StepsFrom s ls count) (in_bags c.loop-count.bags) new) c.deref.ensures.value
+    c.in_ok-spread.ensures.spreads in
+    let old = in_bags c.loop-count.bags in
+    let all = c.in_ok-gather.ensures in
+    let same : length labels ≡ c.len-end.result = omega (arith, c.len-end.ensures, c.loop-count.labels.ok.0) in
+    record {
+      are = record {
+        stored = subst (λ ls. AreStored s (count + 1 + 1) ls new) (sym all.value)
+            (stored_more s test IsNever (count + 1) labels _ old new was.stored spreads all.apart);
+        apart = all.apart;
+        closed = subst (AreClosedTo s IsNever (count + 1)) (sym all.value)
+            (closed_more s test IsNever (count + 1) labels _ old new was.stored spreads count refl was.closed (λ b h. h));
+        starts = subst (CoversStarts (ways at_most t feed query) (told t feed query)) (sym all.value) (starts_more s labels _ was.starts);
+        ended = all.ended;
+        numbers = all.numbers;
+        last = subst (AreLast (count + 1) c.len-end.result) (sym all.value)
+            (subst (λ n. AreLast (count + 1) n (labels ++ gathered (count + 1) new)) same
+            (last_more count c.loop-count.begin labels (gathered (count + 1) new) was.last (gathered_rides (count + 1) new)));
+      };
+      stops = c.in_ok-spread.ensures.stops ∙ c.loop-count.invariant.stops;
+    }
+
+pub returns : goal.returns
+returns g c =
+    let at_most = g.T.Fare.LabelOrder.at_most in
+    let t = g.T.Tariff.terms c.args.self.now.tariff in
+    let feed = c.args.self.now.feed in
+    let query = c.args.self.now.query in
+    let laws = g.met.T.Fare.LabelOrder.laws in
+    let lawful = g.met.T.Tariff.lawful c.args.self.now.tariff in
+    searched_of at_most t laws lawful feed query c.loop-count.begin c.loop-count.labels.items (in_bags c.loop-count.bags) c.loop-count.front
+    (subst (λ n. IsGathered at_most t feed query n c.loop-count.begin c.loop-count.labels.items (in_bags c.loop-count.bags) c.loop-count.front)
+    (omega (arith, c.loop-count-test.false, c.loop-count.auto.count-end, c.limit-count-end.ensures.is)) c.loop-count.invariant.are)

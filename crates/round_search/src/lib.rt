@@ -1,0 +1,14 @@
+//! Searches by rounds, whatever is kept of fares: each round goes on by one more ride from the labels of the round before, and
+//! of all labels those stay that no other is as good as.
+#![tactic(auto)]
+
+mod bags;
+mod finals;
+mod label;
+mod search;
+mod tariff;
+
+pub use finals::Final;
+pub use label::Label;
+pub use search::Search;
+pub use tariff::Tariff;

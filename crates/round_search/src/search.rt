@@ -1,0 +1,367 @@
+//! The search: each round goes on by one more ride from the labels of the round before.
+ghost use Rattle.std.specs.Prelude.{◌≡◌, ◌+◌, ◌<◌, ◌≤◌, ◌^◌, ◌++◌, [], length, IfOk, IsTrue, OnOk, slice_get, Some};
+ghost use Rattle.feed_rows.specs.Journeys.{stands_for};
+ghost use Rattle.feed_rows.specs.SoundFeed.{IsSoundFeed};
+ghost use Rattle.feed_rows.specs.StopLinks.{stop_set};
+ghost use Rattle.feed_timetable.specs.Standings.{stand_of};
+ghost use Rattle.label_bag.specs.Bags.{AreApart};
+ghost use Rattle.plan_rides.specs.InTime.{IsRight, IsUsualQuery};
+ghost use Rattle.search_laws.specs.Stores.{AreStored, AreWhole, Spreads, StepsFrom};
+ghost use Rattle.round_search.specs.Bags.{gathered, in_bags};
+ghost use Rattle.round_search.specs.Finals.{AddsEnds, EndsBelow, EndsIn};
+ghost use Rattle.round_search.specs.Labels.{covers, facts_of};
+ghost use Rattle.round_search.specs.Searches.{AreEnding, AreLast, IsGathered, IsNever, IsSearched, IsEnding, IsSource, SpreadsFrom, StepsBy, StepsTo, search_of};
+ghost use Rattle.round_search.specs.Steps.{IsEnd, facts_after, stand_of_facts, start_facts, ways};
+
+use crate::bags::StopBags;
+use crate::finals::Final;
+use crate::label::Label;
+use crate::tariff::Tariff;
+use feed_rows::{Feed, Triple};
+use feed_timetable::Standing;
+use pareto_front::Front;
+use plan_rides::{CaughtRide, Rides};
+use std::alloc::{AllocError, Global};
+use std::marker::Model;
+use transit_base::StopId;
+
+/// A query over a timetable, and what its search asks of fares. Contracts see the tariff, the feed and the query.
+#[derive(Drop)]
+pub struct Search<'s, 'l, T: Tariff> {
+    alloc: Global,
+    rides: &'l Rides<'s>,
+    tariff: &'l T,
+}
+
+impl<'s, 'l, T: Tariff> Model for Search<'s, 'l, T> {
+    ghost use Rattle.round_search.specs.Searches.{Asked};
+
+    ghost Value = { Asked T };
+
+    ghost view = { λ s. record { tariff = s.tariff.now; feed = s.rides.now.feed; query = s.rides.now.query } };
+}
+
+/// A label with its number among those so far, from which a round goes on.
+#[derive(Clone, Copy)]
+pub struct Source<'l, F: Copy, M: Copy> {
+    labels: &'l [Label<F, M>],
+    number: u32,
+    label: &'l Label<F, M>,
+}
+
+/// Where one stands.
+fn standing<F: Copy, M: Copy>(label: &Label<F, M>) -> Standing
+    ensures { stand_of result ≡ stand_of_facts (facts_of label.now) }
+{
+    Standing {
+        stop: label.stop,
+        at: label.arrival,
+        fresh: label.rides == 0,
+    }
+}
+
+impl<'s, 'l, T: Tariff> Search<'s, 'l, T> {
+    /// The search by these.
+    pub fn of(alloc: Global, rides: &'l Rides<'s>, tariff: &'l T) -> Self
+        ensures { result ≡ record { tariff = tariff.now; feed = rides.now.feed; query = rides.now.query } }
+    {
+        Search {
+            alloc,
+            rides,
+            tariff,
+        }
+    }
+
+    /// The greatest number of rides.
+    fn limit(&self) -> u8
+        ensures is { result ≡ self.now.query.rides }
+        ensures usual { IsUsualQuery self.now.query }
+    {
+        self.rides.query().rides
+    }
+
+    /// The feed.
+    fn feed(&self) -> &Feed
+        ensures value { result.now ≡ self.now.feed }
+        ensures sound { IsSoundFeed self.now.feed }
+    {
+        let _positions = self.rides.positions();
+        self.rides.timetable().feed()
+    }
+
+    /// The stops at which journeys begin.
+    fn firsts(&self) -> &[StopId]
+        ensures { result.now ≡ stop_set self.now.feed self.now.query.from }
+    {
+        self.rides.timetable().members(self.rides.query().from)
+    }
+
+    /// The stops at which journeys end.
+    fn lasts(&self) -> &[StopId]
+        ensures { result.now ≡ stop_set self.now.feed self.now.query.to }
+    {
+        self.rides.timetable().members(self.rides.query().to)
+    }
+
+    /// Offers the label without rides at a first stop.
+    fn offer_start(
+        &self,
+        first: StopId,
+        bags: &mut StopBags<T::Fare, T::Move>,
+    ) -> Result<(), AllocError>
+        requires first { IsTrue (stands_for self.now.feed self.now.query.from first) }
+        requires stops { length bags.old ≡ length self.now.feed.stops }
+        ensures spreads { OnOk result (Spreads (search_of T.Fare.at_most (T.terms self.now.tariff) self.now.feed self.now.query) IsNever [] 0 (λ b. b ≡ start_facts (T.terms self.now.tariff) self.now.query first) (in_bags bags.old) (in_bags bags.new)) }
+        ensures stops { length bags.new ≡ length bags.old }
+    {
+        bags.offer(&Label {
+            stop: first,
+            arrival: self.rides.query().departure,
+            rides: 0,
+            fare: self.tariff.begin(),
+            parent: None,
+            ride: None,
+            taken: None,
+        })
+    }
+
+    /// Offers the labels without rides.
+    fn offer_starts(&self, bags: &mut StopBags<T::Fare, T::Move>) -> Result<(), AllocError>
+        requires { length bags.old ≡ length self.now.feed.stops }
+        ensures spreads { OnOk result (Spreads (search_of T.Fare.at_most (T.terms self.now.tariff) self.now.feed self.now.query) IsNever [] 0 ((ways T.Fare.at_most (T.terms self.now.tariff) self.now.feed self.now.query).Starts) (in_bags bags.old) (in_bags bags.new)) }
+        ensures stops { OnOk result (length bags.new ≡ length bags.old) }
+    {
+        let firsts = self.firsts();
+        for k in 0..firsts.len() {
+            self.offer_start(firsts[k], bags)?;
+        }
+        Ok(())
+    }
+
+    /// Offers what the ride leads to from the label by the move.
+    fn offer_move(
+        &self,
+        bags: &mut StopBags<T::Fare, T::Move>,
+        source: &Source<T::Fare, T::Move>,
+        caught: &CaughtRide,
+        taken: &T::Move,
+    ) -> Result<(), AllocError>
+        requires source { IsSource (T.terms self.now.tariff) self.now.feed self.now.query source.now }
+        requires right { IsRight self.now.feed self.now.query (stand_of_facts (facts_of source.now.label.now)) caught.now }
+        requires pays { (T.terms self.now.tariff).Pays (facts_of source.now.label.now) caught.now.facts taken.now }
+        requires stops { length bags.old ≡ length self.now.feed.stops }
+        ensures spreads { OnOk result (SpreadsFrom T.Fare.at_most (T.terms self.now.tariff) self.now.feed self.now.query source.now (λ b. b ≡ facts_after (T.terms self.now.tariff) (facts_of source.now.label.now) caught.now.facts taken.now) (in_bags bags.old) (in_bags bags.new)) }
+        ensures stops { length bags.new ≡ length bags.old }
+    {
+        let _limit = self.limit();
+        let _feed = self.feed();
+        let label = source.label;
+        bags.offer(&Label {
+            stop: caught.facts.to,
+            arrival: caught.facts.arrival,
+            rides: label.rides + 1,
+            fare: self.tariff.after(label, &caught.facts, taken),
+            parent: Some(source.number),
+            ride: Some(caught.ride),
+            taken: Some(*taken),
+        })
+    }
+
+    /// Offers what the ride leads to from the label. What `moves` holds is lost.
+    fn offer_ride(
+        &self,
+        bags: &mut StopBags<T::Fare, T::Move>,
+        source: &Source<T::Fare, T::Move>,
+        caught: &CaughtRide,
+        moves: &mut Vec<T::Move>,
+    ) -> Result<(), AllocError>
+        requires source { IsSource (T.terms self.now.tariff) self.now.feed self.now.query source.now }
+        requires right { IsRight self.now.feed self.now.query (stand_of_facts (facts_of source.now.label.now)) caught.now }
+        requires stops { length bags.old ≡ length self.now.feed.stops }
+        ensures spreads { OnOk result (SpreadsFrom T.Fare.at_most (T.terms self.now.tariff) self.now.feed self.now.query source.now (StepsBy (T.terms self.now.tariff) self.now.feed self.now.query (facts_of source.now.label.now) caught.now.ride) (in_bags bags.old) (in_bags bags.new)) }
+        ensures stops { OnOk result (length bags.new ≡ length bags.old) }
+    {
+        self.tariff.moves_into(source.label, &caught.facts, moves)?;
+        for k in 0..moves.len() {
+            self.offer_move(bags, source, caught, &moves[k])?;
+        }
+        Ok(())
+    }
+
+    /// Offers what one more ride leads to from the label. What `moves` holds is lost.
+    fn offer_rides(
+        &self,
+        bags: &mut StopBags<T::Fare, T::Move>,
+        source: &Source<T::Fare, T::Move>,
+        moves: &mut Vec<T::Move>,
+    ) -> Result<(), AllocError>
+        requires source { IsSource (T.terms self.now.tariff) self.now.feed self.now.query source.now }
+        requires stops { length bags.old ≡ length self.now.feed.stops }
+        ensures spreads { OnOk result (SpreadsFrom T.Fare.at_most (T.terms self.now.tariff) self.now.feed self.now.query source.now (StepsTo (T.terms self.now.tariff) self.now.feed self.now.query (facts_of source.now.label.now)) (in_bags bags.old) (in_bags bags.new)) }
+        ensures stops { OnOk result (length bags.new ≡ length bags.old) }
+    {
+        let rides = self.rides.next(self.alloc, standing(source.label))?;
+        for k in 0..rides.len() {
+            self.offer_ride(bags, source, &rides[k], moves)?;
+        }
+        Ok(())
+    }
+
+    /// Offers what one more ride leads to from the labels from the number on, which are those with so many rides.
+    fn spread(
+        &self,
+        bags: &mut StopBags<T::Fare, T::Move>,
+        labels: &[Label<T::Fare, T::Move>],
+        count: u8,
+        begin: usize,
+        moves: &mut Vec<T::Move>,
+    ) -> Result<(), AllocError>
+        requires few { count < self.now.query.rides }
+        requires stored { AreStored (search_of T.Fare.at_most (T.terms self.now.tariff) self.now.feed self.now.query) (count + 1) labels.now (in_bags bags.old) }
+        requires last { AreLast count begin labels.now }
+        requires numbers { length labels.now < 2 ^ 32 }
+        requires stops { length bags.old ≡ length self.now.feed.stops }
+        ensures spreads { OnOk result (Spreads (search_of T.Fare.at_most (T.terms self.now.tariff) self.now.feed self.now.query) IsNever labels.now (count + 1) (StepsFrom (search_of T.Fare.at_most (T.terms self.now.tariff) self.now.feed self.now.query) labels.now count) (in_bags bags.old) (in_bags bags.new)) }
+        ensures stops { OnOk result (length bags.new ≡ length bags.old) }
+    {
+        let _limit = self.limit();
+        for number in begin..labels.len() {
+            let source = Source {
+                labels,
+                number: number as u32,
+                label: &labels[number],
+            };
+            self.offer_rides(bags, &source, moves)?;
+        }
+        Ok(())
+    }
+
+    /// Offers what the label ends in at this stop, which is one of the destination's.
+    fn offer_end(
+        &self,
+        source: &Source<T::Fare, T::Move>,
+        last: StopId,
+        front: &mut Front<Final>,
+    ) -> Result<(), AllocError>
+        requires source { IsEnding (T.terms self.now.tariff) self.now.feed self.now.query source.now }
+        requires ends { IsTrue (stands_for self.now.feed self.now.query.to last) }
+        ensures { OnOk result (AddsEnds (T.terms self.now.tariff) self.now.feed self.now.query source.now.labels.now (IsEnd (T.terms self.now.tariff) self.now.feed self.now.query (facts_of source.now.label.now) last) front.old front.new) }
+    {
+        let Some(arrival) = self.rides.arrival_in_time(standing(source.label), last) else {
+            return Ok(());
+        };
+        front.offer(Final {
+            triple: Triple {
+                arrival,
+                rides: source.label.rides,
+                price: self.tariff.price(source.label),
+            },
+            label: source.number,
+            last,
+        })
+    }
+
+    /// Offers what the label ends in.
+    fn offer_ends(
+        &self,
+        source: &Source<T::Fare, T::Move>,
+        front: &mut Front<Final>,
+    ) -> Result<(), AllocError>
+        requires { IsEnding (T.terms self.now.tariff) self.now.feed self.now.query source.now }
+        ensures { OnOk result (AddsEnds (T.terms self.now.tariff) self.now.feed self.now.query source.now.labels.now (EndsIn (T.terms self.now.tariff) self.now.feed self.now.query source.now.label.now) front.old front.new) }
+    {
+        let lasts = self.lasts();
+        for k in 0..lasts.len() {
+            self.offer_end(source, lasts[k], front)?;
+        }
+        Ok(())
+    }
+
+    /// Adds what the labels from the number on end in, where what those before it end in is there.
+    fn add_ends(
+        &self,
+        labels: &[Label<T::Fare, T::Move>],
+        begin: usize,
+        front: &mut Front<Final>,
+    ) -> Result<(), AllocError>
+        requires ending { AreEnding (T.terms self.now.tariff) self.now.feed self.now.query labels.now }
+        requires numbers { length labels.now < 2 ^ 32 }
+        requires before { AddsEnds (T.terms self.now.tariff) self.now.feed self.now.query labels.now (EndsBelow (T.terms self.now.tariff) self.now.feed self.now.query labels.now begin) [] front.old }
+        ensures { OnOk result (AddsEnds (T.terms self.now.tariff) self.now.feed self.now.query labels.now (EndsBelow (T.terms self.now.tariff) self.now.feed self.now.query labels.now (length labels.now)) [] front.new) }
+    {
+        for number in begin..labels.len() {
+            let source = Source {
+                labels,
+                number: number as u32,
+                label: &labels[number],
+            };
+            self.offer_ends(&source, front)?;
+        }
+        Ok(())
+    }
+
+    /// Adds the labels that have so many rides, and what they end in.
+    ///
+    /// # Errors
+    /// Want of memory; so counts that there would be 2^32 labels or more.
+    fn gather(
+        &self,
+        rides: u8,
+        bags: &StopBags<T::Fare, T::Move>,
+        labels: &mut Vec<Label<T::Fare, T::Move>>,
+        front: &mut Front<Final>,
+    ) -> Result<(), AllocError>
+        requires ending { AreEnding (T.terms self.now.tariff) self.now.feed self.now.query (labels.old.items ++ gathered rides (in_bags bags.now)) }
+        requires ended { AddsEnds (T.terms self.now.tariff) self.now.feed self.now.query labels.old.items (EndsBelow (T.terms self.now.tariff) self.now.feed self.now.query labels.old.items (length labels.old.items)) [] front.old }
+        ensures value { OnOk result (labels.new.items ≡ labels.old.items ++ gathered rides (in_bags bags.now)) }
+        ensures numbers { OnOk result (length labels.new.items < 2 ^ 32) }
+        ensures ended { OnOk result (AddsEnds (T.terms self.now.tariff) self.now.feed self.now.query labels.new.items (EndsBelow (T.terms self.now.tariff) self.now.feed self.now.query labels.new.items (length labels.new.items)) [] front.new) }
+        ensures apart { AreApart (covers T.Fare.at_most) (in_bags bags.now) }
+    {
+        let begin = labels.len();
+        bags.gather(rides, labels)?;
+        if labels.len() >= 1 << 32 {
+            return Err(AllocError);
+        }
+        self.add_ends(labels, begin, front)
+    }
+
+    /// Goes on by one more ride a round, from the labels without rides.
+    fn spread_all(
+        &self,
+        bags: &mut StopBags<T::Fare, T::Move>,
+        labels: &mut Vec<Label<T::Fare, T::Move>>,
+        front: &mut Front<Final>,
+    ) -> Result<(), AllocError>
+        requires start { IsGathered T.Fare.at_most (T.terms self.now.tariff) self.now.feed self.now.query 0 0 labels.old.items (in_bags bags.old) front.old }
+        requires stops { length bags.old ≡ length self.now.feed.stops }
+        ensures { OnOk result (IsSearched T.Fare.at_most (T.terms self.now.tariff) self.now.feed self.now.query labels.new.items front.new) }
+    {
+        let mut moves = Vec::new(self.alloc);
+        let mut begin = 0;
+        for count in 0..self.limit() {
+            let end = labels.len();
+            self.spread(bags, labels, count, begin, &mut moves)?;
+            self.gather(count + 1, bags, labels, front)?;
+            begin = end;
+        }
+        Ok(())
+    }
+
+    /// The labels of all rounds, and the best that they end in.
+    ///
+    /// # Errors
+    /// Want of memory; so counts that there would be 2^32 labels or more.
+    pub fn labels(&self) -> Result<(Vec<Label<T::Fare, T::Move>>, Front<Final>), AllocError>
+        ensures { IfOk result (λ all. IsSearched T.Fare.at_most (T.terms self.now.tariff) self.now.feed self.now.query all.0.items all.1) }
+    {
+        let _limit = self.limit();
+        let mut bags = StopBags::empty(self.alloc, self.feed().stops.items().len())?;
+        self.offer_starts(&mut bags)?;
+        let mut labels = Vec::new(self.alloc);
+        let mut front = Front::empty(self.alloc);
+        self.gather(0, &bags, &mut labels, &mut front)?;
+        self.spread_all(&mut bags, &mut labels, &mut front)?;
+        Ok((labels, front))
+    }
+}
