@@ -5,8 +5,10 @@ use crate::drawn::{drawn_feed, drawn_query};
 use feed_rows::{Entry, Feed, Query, Triple};
 use feed_timetable::Timetable;
 use pareto_front::are_same_triples;
+use plan_arrivals::arrivals;
 use plan_plain::plain_entries;
 use plan_rounds::{round_entries, rounds};
+use round_search::Final;
 use round_table::RoundTable;
 use std::alloc::{AllocError, Global};
 use transit_base::StopId;
@@ -65,14 +67,40 @@ fn triples_of_table(
     Ok(triples)
 }
 
-// Whether all three find the same, and something.
+// Whether some arrival is no later than the triple's, after no more rides.
+fn is_met(found: &[Final], triple: Triple) -> bool {
+    for one in found {
+        if one.triple.arrival.0 <= triple.arrival.0 && one.triple.rides <= triple.rides {
+            return true;
+        }
+    }
+    false
+}
+
+// Whether it is so for each of the triples.
+fn are_met(found: &[Final], triples: &[Triple]) -> bool {
+    for triple in triples {
+        if !is_met(found, *triple) {
+            return false;
+        }
+    }
+    true
+}
+
+// Whether all three find the same, and something, and nothing that arrives earlier than what is found whatever it costs.
 fn is_found_by_all(alloc: Global, timetable: &Timetable, query: &Query) -> Result<bool, AllocError>
     requires { IsUsualQuery query.now }
 {
     let found = triples(alloc, &round_entries(alloc, timetable, query)?)?;
     let table = triples_of_table(alloc, timetable, query)?;
     let plain = triples(alloc, &plain_entries(alloc, timetable, query)?)?;
-    Ok(!found.is_empty() && are_same_triples(&found, &plain) && are_same_triples(&table, &plain))
+    let soonest = arrivals(alloc, timetable, query)?;
+    Ok(
+        !found.is_empty()
+            && are_same_triples(&found, &plain)
+            && are_same_triples(&table, &plain)
+            && are_met(&soonest, &plain),
+    )
 }
 
 // The same over a feed.

@@ -1,0 +1,2 @@
+pub mod NoFares
+pub mod Arrivals

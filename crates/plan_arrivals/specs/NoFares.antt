@@ -1,0 +1,36 @@
+-- A tariff that asks for no fares.
+use Rattle.std.specs.Prelude.{Bool, true, pos}
+use Rattle.std.proofs.Common.{refl, arith}
+use Rattle.std.proofs.lemmas.Int.{ints}
+use Rattle.label_order.specs.Labels.{OrderLaws}
+use Rattle.round_search.specs.Terms.{IsLawful, Terms}
+use Rattle.plan_arrivals.specs.declared.no_fares.NoFare.{NoFare}
+use Rattle.plan_arrivals.specs.declared.no_fares.NoMove.{NoMove}
+
+-- any fare is as good as any other
+abbrev pub any : NoFare → NoFare → Bool
+any a b = true
+
+pub any_laws : OrderLaws any
+any_laws = record { reflexive = λ x. refl; transitive = λ x y z p q. refl }
+
+abbrev pub no_fare : NoFare
+no_fare = record {}
+
+-- each ride is free
+abbrev pub no_fares : Terms NoFare NoMove
+no_fares = record {
+  begins = no_fare;
+  Pays = λ a ride move. Unit {0};
+  after = λ a ride move. no_fare;
+  price = λ fare. pos 0;
+  IsFare = λ rides fare. Unit {0};
+}
+
+pub free_lawful : IsLawful any no_fares
+free_lawful = record {
+  begins = tt;
+  stays = λ a ride move fare pays. tt;
+  follow = λ a b ride move of_a of_b covers pays. record { move = move; pays = tt; below = refl };
+  costs = λ a b below. omega (arith, ints);
+}

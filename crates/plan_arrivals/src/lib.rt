@@ -1,0 +1,8 @@
+//! The earliest arrivals of a query with the fewest rides, whatever they cost: a search by rounds that asks for no fares.
+#![tactic(auto)]
+
+mod earliest;
+mod no_fares;
+
+pub use earliest::arrivals;
+pub use no_fares::{NoFare, NoFares, NoMove};
