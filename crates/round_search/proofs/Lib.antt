@@ -6,3 +6,4 @@ pub mod RideLaws
 pub mod SourceLaws
 pub mod FinalLaws
 pub mod RoundLaws
+pub mod ScanLaws

@@ -15,7 +15,7 @@ use Rattle.feed_rows.specs.JourneyStands.{next_stand, stand_at_end, way_to}
 use Rattle.feed_rows.specs.SoundFeed.{IsSoundFeed}
 use Rattle.feed_rows.specs.StopLinks.{stop_set}
 use Rattle.plain_laws.proofs.Laws.{le-int_le, slice_get-Contains}
-use Rattle.plan_rides.specs.InTime.{HasCaught, IsRight, next_in_time}
+use Rattle.plan_rides.specs.InTime.{IsRight, next_in_time}
 use Rattle.plan_rides.specs.declared.caught.CaughtRide.{CaughtRide}
 use Rattle.plan_rides.proofs.CaughtLaws.{caught_ride, caught_within}
 use Rattle.plan_rides.proofs.DepartureLaws.{ride_end}
@@ -221,13 +221,3 @@ module _ {F M : Type 0} (at_most : F → F → Bool) (t : Terms F M) (laws : Ord
         (λ upper. let same : steps.0 ≡ k = omega (arith, below, upper) in
         inr (subst (λ (c : CaughtRide). StepsBy t feed query (facts_of from) c.ride b)
         (same_Some _ _ (sym steps.3 ∙ ap (slice_get rides) same ∙ at)) steps.4)) (cases_lt steps.0 k)
-
-    -- each step is by one of the rides that are caught
-    pub rides_all : (rides : List CaughtRide) (n : ℕ) (b : Facts F) →
-        HasCaught feed query (stand_of_facts (facts_of from)) rides → length rides ≤ n →
-        StepsTo t feed query (facts_of from) b → StepsByFirst t feed query (facts_of from) rides n b
-    rides_all rides n b has all to =
-        let some = has to.0 (stand_at_end to.2.facts) (in_time_of (facts_of from) to.0 to.2.facts to.2.rides) in
-        let at = slice_get-Contains rides some.0 some.1 in
-        let lt = slice_get_within rides at.0 some.0 at.1 in
-        (at.0, omega (arith, lt, all), some.0, at.1, (to.1, subst (λ (r : Ride). IsStep t feed query (facts_of from) r to.1 b) (sym some.2) to.2))

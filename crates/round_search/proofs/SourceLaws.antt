@@ -9,13 +9,12 @@ use Rattle.feed_rows.specs.FeedRows.{FeedRows}
 use Rattle.feed_rows.specs.Journeys.{stands_for}
 use Rattle.feed_rows.specs.JourneyStands.{first_stand}
 use Rattle.plain_laws.proofs.Laws.{All-slice_get, slice_get-Contains, slice_get-append_left, slice_get-append_right}
-use Rattle.plan_rides.specs.InTime.{IsUsualQuery}
 use Rattle.search_laws.specs.Links.{IsLinked}
 use Rattle.search_laws.specs.Stores.{AreStored, StepsFrom}
 use Rattle.round_search.specs.declared.label.Label.{Label}
-use Rattle.round_search.specs.declared.search.Source.{Source}
 use Rattle.round_search.specs.Labels.{facts_of}
-use Rattle.round_search.specs.Searches.{AreLast, IsFit, IsSource, StepsTo, StepsWithin, search_of, told}
+use Rattle.round_search.specs.Scans.{IsOrigin}
+use Rattle.round_search.specs.Searches.{AreLast, IsFit, StepsTo, StepsWithin, search_of, told}
 use Rattle.round_search.specs.Steps.{stand_of_facts, ways}
 use Rattle.round_search.specs.Terms.{Facts, Terms}
 
@@ -29,18 +28,15 @@ module _ {F M : Type 0} (at_most : F → F → Bool) (t : Terms F M) (feed : Fee
       absurd (omega (arith, more, none))
 
   -- a round goes on from a stored label that has fewer rides than the query's limit
-  pub source_is : (source : Source F M) (count : ℕ) (labels bags : List (Label F M)) → IsUsualQuery query → count < query.rides →
-      AreStored (search_of at_most t feed query) (count + 1) labels bags → source.labels.now ≡ labels →
-      slice_get labels source.number ≡ Some source.label.now → source.label.now.rides ≡ count → IsSource t feed query source
-  source_is source count labels bags usual few stored same at counts = record {
-    is = ap (λ ls. slice_get ls source.number) same ∙ at;
-    usual = usual;
+  pub origin_is : (number : ℕ) (x : Label F M) (count : ℕ) (labels bags : List (Label F M)) → count < query.rides →
+      AreStored (search_of at_most t feed query) (count + 1) labels bags → slice_get labels number ≡ Some x → x.rides ≡ count →
+      IsOrigin t feed query x
+  origin_is number x count labels bags few stored at counts = record {
     few = omega (arith, few, counts);
-    fit = All-slice_get (IsFit t feed query) labels source.number source.label.now at stored.fit;
+    fit = All-slice_get (IsFit t feed query) labels number x at stored.fit;
     may = record {
       some = omega (arith, few);
-      one = λ one. first_of (take source.number labels) source.label.now (stored.linked source.number source.label.now at)
-          (omega (arith, one, few, counts));
+      one = λ one. first_of (take number labels) x (stored.linked number x at) (omega (arith, one, few, counts));
     };
   }
 

@@ -5,3 +5,4 @@ pub mod Bags
 pub mod Steps
 pub mod Searches
 pub mod Finals
+pub mod Scans

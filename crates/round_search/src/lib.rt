@@ -5,6 +5,7 @@
 mod bags;
 mod finals;
 mod label;
+mod scan;
 mod search;
 mod tariff;
 

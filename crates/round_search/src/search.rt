@@ -16,11 +16,12 @@ ghost use Rattle.round_search.specs.Steps.{IsEnd, facts_after, stand_of_facts, s
 use crate::bags::StopBags;
 use crate::finals::Final;
 use crate::label::Label;
+use crate::scan::{Room, Round};
 use crate::tariff::Tariff;
-use feed_rows::{Feed, Triple};
+use feed_rows::{Feed, Query, Triple};
 use feed_timetable::Standing;
 use pareto_front::Front;
-use plan_rides::{CaughtRide, Rides};
+use plan_rides::{CaughtRide, KeptRides, Rides};
 use std::alloc::{AllocError, Global};
 use std::marker::Model;
 use transit_base::StopId;
@@ -44,13 +45,13 @@ impl<'s, 'l, T: Tariff> Model for Search<'s, 'l, T> {
 /// A label with its number among those so far, from which a round goes on.
 #[derive(Clone, Copy)]
 pub struct Source<'l, F: Copy, M: Copy> {
-    labels: &'l [Label<F, M>],
-    number: u32,
-    label: &'l Label<F, M>,
+    pub(crate) labels: &'l [Label<F, M>],
+    pub(crate) number: u32,
+    pub(crate) label: &'l Label<F, M>,
 }
 
 /// Where one stands.
-fn standing<F: Copy, M: Copy>(label: &Label<F, M>) -> Standing
+pub(crate) fn standing<F: Copy, M: Copy>(label: &Label<F, M>) -> Standing
     ensures { stand_of result ≡ stand_of_facts (facts_of label.now) }
 {
     Standing {
@@ -70,6 +71,14 @@ impl<'s, 'l, T: Tariff> Search<'s, 'l, T> {
             rides,
             tariff,
         }
+    }
+
+    /// The query.
+    pub(crate) fn query(&self) -> &'s Query
+        ensures is { result.now ≡ self.now.query }
+        ensures usual { IsUsualQuery self.now.query }
+    {
+        self.rides.query()
     }
 
     /// The greatest number of rides.
@@ -168,7 +177,7 @@ impl<'s, 'l, T: Tariff> Search<'s, 'l, T> {
     }
 
     /// Offers what the ride leads to from the label. What `moves` holds is lost.
-    fn offer_ride(
+    pub(crate) fn offer_ride(
         &self,
         bags: &mut StopBags<T::Fare, T::Move>,
         source: &Source<T::Fare, T::Move>,
@@ -188,33 +197,15 @@ impl<'s, 'l, T: Tariff> Search<'s, 'l, T> {
         Ok(())
     }
 
-    /// Offers what one more ride leads to from the label. What `moves` holds is lost.
-    fn offer_rides(
-        &self,
-        bags: &mut StopBags<T::Fare, T::Move>,
-        source: &Source<T::Fare, T::Move>,
-        moves: &mut Vec<T::Move>,
-    ) -> Result<(), AllocError>
-        requires source { IsSource (T.terms self.now.tariff) self.now.feed self.now.query source.now }
-        requires stops { length bags.old ≡ length self.now.feed.stops }
-        ensures spreads { OnOk result (SpreadsFrom T.Fare.at_most (T.terms self.now.tariff) self.now.feed self.now.query source.now (StepsTo (T.terms self.now.tariff) self.now.feed self.now.query (facts_of source.now.label.now)) (in_bags bags.old) (in_bags bags.new)) }
-        ensures stops { OnOk result (length bags.new ≡ length bags.old) }
-    {
-        let rides = self.rides.next(self.alloc, standing(source.label))?;
-        for k in 0..rides.len() {
-            self.offer_ride(bags, source, &rides[k], moves)?;
-        }
-        Ok(())
-    }
-
-    /// Offers what one more ride leads to from the labels from the number on, which are those with so many rides.
+    /// Offers what one more ride leads to from the labels from the number on, which are those with so many rides. What the room holds
+    /// is lost.
     fn spread(
         &self,
         bags: &mut StopBags<T::Fare, T::Move>,
         labels: &[Label<T::Fare, T::Move>],
         count: u8,
         begin: usize,
-        moves: &mut Vec<T::Move>,
+        room: &mut Room<T::Move>,
     ) -> Result<(), AllocError>
         requires few { count < self.now.query.rides }
         requires stored { AreStored (search_of T.Fare.at_most (T.terms self.now.tariff) self.now.feed self.now.query) (count + 1) labels.now (in_bags bags.old) }
@@ -225,15 +216,13 @@ impl<'s, 'l, T: Tariff> Search<'s, 'l, T> {
         ensures stops { OnOk result (length bags.new ≡ length bags.old) }
     {
         let _limit = self.limit();
-        for number in begin..labels.len() {
-            let source = Source {
-                labels,
-                number: number as u32,
-                label: &labels[number],
-            };
-            self.offer_rides(bags, &source, moves)?;
-        }
-        Ok(())
+        let round = Round {
+            positions: self.rides.positions(),
+            labels,
+            begin,
+            count,
+        };
+        self.offer_round(bags, &round, room)
     }
 
     /// Offers what the label ends in at this stop, which is one of the destination's.
@@ -337,11 +326,15 @@ impl<'s, 'l, T: Tariff> Search<'s, 'l, T> {
         requires stops { length bags.old ≡ length self.now.feed.stops }
         ensures { OnOk result (IsSearched T.Fare.at_most (T.terms self.now.tariff) self.now.feed self.now.query labels.new.items front.new) }
     {
-        let mut moves = Vec::new(self.alloc);
+        let mut room = Room {
+            reached: Vec::new(self.alloc),
+            rides: KeptRides::none(self.alloc),
+            moves: Vec::new(self.alloc),
+        };
         let mut begin = 0;
         for count in 0..self.limit() {
             let end = labels.len();
-            self.spread(bags, labels, count, begin, &mut moves)?;
+            self.spread(bags, labels, count, begin, &mut room)?;
             self.gather(count + 1, bags, labels, front)?;
             begin = end;
         }

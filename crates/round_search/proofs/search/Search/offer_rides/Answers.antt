@@ -1,13 +1,22 @@
-use Rattle.std.proofs.Common.{refl, ◌∙◌, subst, ◌<◌, length, arith}
-use Rattle.std.proofs.lemmas.Option.{slice_get_read}
-use Rattle.feed_rows.specs.JourneyStands.{Stand}
-use Rattle.feed_timetable.specs.Standings.{stand_of}
-use Rattle.plan_rides.specs.InTime.{HasCaught}
+use Rattle.std.proofs.Common.{refl, sym, ◌∙◌, pos, arith, slice_index_or}
+use Rattle.std.specs.Prelude.{None}
+use Rattle.std.proofs.lemmas.List.Elements.{Contains-get_or}
+use Rattle.std.proofs.lemmas.Option.{slice_get-get_or}
+use Rattle.plan_rides.specs.declared.caught.CaughtRide.{CaughtRide}
 use Rattle.search_laws.proofs.SpreadLaws.{spreads_more, spreads_none, spreads_same}
 use Rattle.round_search.specs.Bags.{in_bags}
-use Rattle.round_search.specs.Searches.{Asked, IsNever, search_of}
-use Rattle.round_search.proofs.RideLaws.{rides_all, rides_more}
+use Rattle.round_search.specs.Searches.{IsNever, search_of}
+use Rattle.round_search.proofs.RideLaws.{rides_more}
+use Rattle.round_search.proofs.ScanLaws.{by_passed, right_from, steps_from}
 use Rattle.round_search.proofs.search.Search.offer_rides.Goals as goal
+use Rattle.round_search.proofs.search.Search.offer_rides.Goals.{then-departs_since+in_ok-offer_ride, else-departs_since}
+
+abbrev none : CaughtRide
+none =
+    record {
+      ride = record { trip = record { 0 = 0 }; day = record { 0 = pos 0 }; shift = pos 0; from = 0; to = 0 };
+      facts = record { from = record { 0 = 0 }; to = record { 0 = 0 }; network = None; departure = record { 0 = pos 0 }; arrival = record { 0 = pos 0 } };
+    }
 
 pub loop-k-init : goal.loop-k-init
 loop-k-init g c =
@@ -21,6 +30,22 @@ loop-k-init g c =
       stops = refl;
     }
 
+pub offer_ride-requires-clause-right : goal.offer_ride-requires-clause-right
+offer_ride-requires-clause-right g c =
+    let at_most = g.T.Fare.LabelOrder.at_most in
+    let t = g.T.Tariff.terms c.args.self.now.tariff in
+    let feed = c.args.self.now.feed in
+    let query = c.args.self.now.query in
+    let laws = g.met.T.Fare.LabelOrder.laws in
+    let lawful = g.met.T.Tariff.lawful c.args.self.now.tariff in
+    let round = c.args.round.now in
+    let source = c.args.source.now in
+    let reached = c.args.reached.now in
+    let rides = c.args.rides.now in
+    right_from at_most t laws lawful feed query round c.requires.round source c.requires.source reached rides c.requires.from c.requires.holds
+    (slice_index_or rides c.loop-k.k none) (Contains-get_or rides c.loop-k.k none c.loop-k-test.true)
+    (sym c.departs_since.ensures ∙ c.if-departs_since.true)
+
 pub offer_ride-requires-clause-stops : goal.offer_ride-requires-clause-stops
 offer_ride-requires-clause-stops g c = c.loop-k.invariant.stops ∙ c.requires.stops
 
@@ -32,16 +57,28 @@ loop-k-preserved g c =
     let query = c.args.self.now.query in
     let laws = g.met.T.Fare.LabelOrder.laws in
     let lawful = g.met.T.Tariff.lawful c.args.self.now.tariff in
+    let round = c.args.round.now in
     let source = c.args.source.now in
-    let rides = c.in_ok-rides.rides in
-    let lt : c.loop-k.k < length rides.items = omega (arith, c.loop-k-test.true, c.len-k-end.ensures, rides.ok.0) in
-    let at = slice_get_read rides.items (length rides.items) c.loop-k.k c.index.result.now refl lt c.index.ensures in
-    record {
-      spreads = spreads_more (search_of at_most t feed query) IsNever source.labels.now _ _ _ _ _ _ _ c.loop-k.invariant.spreads
-          c.in_ok-offer_ride.ensures.spreads
-          (λ b. rides_more at_most t laws lawful feed query source c.requires.source rides.items c.loop-k.k c.index.result.now b at);
-      stops = c.in_ok-offer_ride.ensures.stops ∙ c.loop-k.invariant.stops;
-    }
+    let reached = c.args.reached.now in
+    let rides = c.args.rides.now in
+    let k = c.loop-k.k in
+    let search = search_of at_most t feed query in
+    let was = c.loop-k.invariant in
+    let caught = slice_index_or rides k none in
+    let at = slice_get-get_or rides k none c.loop-k-test.true in
+    elim c.if-departs_since.branch [
+      | then-departs_since+in_ok-offer_ride w ↦ record {
+        spreads = rw w.bags-is (spreads_more search IsNever source.labels.now _ _ _ _ _ _ _ was.spreads w.in_ok-offer_ride.ensures.spreads
+            (λ b. rides_more at_most t laws lawful feed query source c.requires.source rides k caught b at));
+        stops = rw w.bags-is (w.in_ok-offer_ride.ensures.stops ∙ was.stops);
+      }
+      | else-departs_since w ↦ record {
+        spreads = rw w.bags-is (spreads_same search IsNever source.labels.now _ _ _ _ _ was.spreads
+            (λ b. by_passed at_most t laws lawful feed query round c.requires.round source c.requires.source reached rides c.requires.from
+            c.requires.holds k caught b at (sym c.departs_since.ensures ∙ w.if-departs_since.false)));
+        stops = rw w.bags-is was.stops;
+      }
+    ]
 
 pub returns-clause-spreads : goal.returns-clause-spreads
 returns-clause-spreads g c =
@@ -51,13 +88,13 @@ returns-clause-spreads g c =
     let query = c.args.self.now.query in
     let laws = g.met.T.Fare.LabelOrder.laws in
     let lawful = g.met.T.Tariff.lawful c.args.self.now.tariff in
+    let round = c.args.round.now in
     let source = c.args.source.now in
-    let rides = c.in_ok-rides.rides in
+    let reached = c.args.reached.now in
+    let rides = c.args.rides.now in
     spreads_same (search_of at_most t feed query) IsNever source.labels.now _ _ _ _ _ c.loop-k.invariant.spreads
-    (λ b. rides_all at_most t laws lawful feed query source c.requires.source rides.items c.loop-k.k b
-    (subst (λ (stand : Stand). HasCaught feed query stand rides.items) c.standing.ensures
-    (subst (λ (a : Asked _). HasCaught a.feed a.query (stand_of c.standing.result) rides.items) c.self.view_is c.in_ok-rides.ensures.all))
-    (omega (arith, c.loop-k-test.false, c.len-k-end.ensures, rides.ok.0)))
+    (λ b. steps_from at_most t laws lawful feed query round c.requires.round source c.requires.source reached rides c.requires.from
+    c.requires.holds c.loop-k.k b (omega (arith, c.loop-k-test.false)))
 
 pub returns-clause-stops : goal.returns-clause-stops
 returns-clause-stops g c = c.loop-k.invariant.stops

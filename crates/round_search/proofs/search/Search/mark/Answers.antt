@@ -1,0 +1,54 @@
+use Rattle.std.proofs.Common.{◌≡◌, refl, subst, length, arith}
+use Rattle.std.proofs.lemmas.Option.{slice_get-get_or}
+use Rattle.round_search.specs.Scans.{AreReached}
+use Rattle.round_search.proofs.ScanLaws.{label_reached, none_reached, reached_moved, source_of}
+use Rattle.round_search.proofs.search.Search.mark.Goals as goal
+
+pub loop-number-init : goal.loop-number-init
+loop-number-init g c =
+    let at_most = g.T.Fare.LabelOrder.at_most in
+    let t = g.T.Tariff.terms c.args.self.now.tariff in
+    let feed = c.args.self.now.feed in
+    let query = c.args.self.now.query in
+    let laws = g.met.T.Fare.LabelOrder.laws in
+    let lawful = g.met.T.Tariff.lawful c.args.self.now.tariff in
+    none_reached at_most t laws lawful feed query c.args.round.now c.requires c.clear.new.self.items c.clear.ensures.items
+
+pub reach-requires-clause-source : goal.reach-requires-clause-source
+reach-requires-clause-source g c =
+    let t = g.T.Tariff.terms c.args.self.now.tariff in
+    let feed = c.args.self.now.feed in
+    let query = c.args.self.now.query in
+    let labels = c.args.round.now.labels.now in
+    let number = c.loop-number.number in
+    let at = slice_get-get_or labels number c.index-round-number.result c.loop-number-test.true in
+    source_of t feed query _ c.requires.usual at (c.requires.origins number _ at c.loop-number.auto.number)
+
+pub loop-number-preserved : goal.loop-number-preserved
+loop-number-preserved g c =
+    let at_most = g.T.Fare.LabelOrder.at_most in
+    let t = g.T.Tariff.terms c.args.self.now.tariff in
+    let feed = c.args.self.now.feed in
+    let query = c.args.self.now.query in
+    let laws = g.met.T.Fare.LabelOrder.laws in
+    let lawful = g.met.T.Tariff.lawful c.args.self.now.tariff in
+    let labels = c.args.round.now.labels.now in
+    let number = c.loop-number.number in
+    let at = slice_get-get_or labels number c.index-round-number.result c.loop-number-test.true in
+    label_reached at_most t laws lawful feed query c.args.round.now c.requires _ number _ _ refl at c.loop-number.auto.number
+    c.loop-number.invariant c.in_ok-reach.ensures
+
+pub returns : goal.returns
+returns g c =
+    let at_most = g.T.Fare.LabelOrder.at_most in
+    let t = g.T.Tariff.terms c.args.self.now.tariff in
+    let feed = c.args.self.now.feed in
+    let query = c.args.self.now.query in
+    let laws = g.met.T.Fare.LabelOrder.laws in
+    let lawful = g.met.T.Tariff.lawful c.args.self.now.tariff in
+    let round = c.args.round.now in
+    let items = c.loop-number.reached.items in
+    let below = c.loop-number.auto.number-end c.requires.last.within in
+    let same : c.loop-number.number ≡ length round.labels.now = omega (arith, c.loop-number-test.false, below) in
+    reached_moved at_most t laws lawful feed query round c.requires (length round.labels.now) items _ c.put_in_order.ensures.moved
+    (subst (λ n. AreReached t feed query round n items) same c.loop-number.invariant)

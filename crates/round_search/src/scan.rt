@@ -1,0 +1,191 @@
+//! How a round goes on from its labels: pattern by pattern, and position by position.
+ghost use Rattle.std.specs.Prelude.{◌≡◌, [], OnOk, int_le, length};
+ghost use Rattle.std.specs.List.Sorted.{IsPermutation};
+ghost use Rattle.plan_rides.specs.Cutoffs.{cutoff_by, cutoff_of};
+ghost use Rattle.plan_rides.specs.InTime.{deadline};
+ghost use Rattle.plan_rides.specs.Reached.{AreKept, HoldsFrom, IsReachedFrom, none_kept};
+ghost use Rattle.search_laws.specs.Stores.{StepsFrom};
+ghost use Rattle.round_search.specs.Bags.{in_bags};
+ghost use Rattle.round_search.specs.Labels.{facts_of};
+ghost use Rattle.round_search.specs.Scans.{AddsMarks, AreInOrder, AreReached, IsMarked, IsRound, SpreadsIn, StepsAt, StepsFromPosition};
+ghost use Rattle.round_search.specs.Searches.{IsSource, SpreadsFrom, search_of};
+ghost use Rattle.round_search.specs.Steps.{stand_of_facts};
+
+use crate::bags::StopBags;
+use crate::label::Label;
+use crate::search::{Search, Source, standing};
+use crate::tariff::Tariff;
+use plan_rides::{CaughtRide, Cutoff, KeptRides, Positions, Reached, Traveller, deadline};
+use std::alloc::AllocError;
+
+/// What a round goes on from: where riders may board, the labels, from which number on these are the last, and how many rides they
+/// have.
+#[derive(Clone, Copy)]
+pub struct Round<'s, 'r, F: Copy, M: Copy> {
+    pub(crate) positions: &'r Positions<'s>,
+    pub(crate) labels: &'r [Label<F, M>],
+    pub(crate) begin: usize,
+    pub(crate) count: u8,
+}
+
+/// What is kept for its memory from ride to ride: the positions that are reached, the rides from the one that was looked at last, and
+/// the moves that pay a ride.
+pub struct Room<M: Copy> {
+    pub(crate) reached: Vec<Reached>,
+    pub(crate) rides: KeptRides,
+    pub(crate) moves: Vec<M>,
+}
+
+// Written out, so that what holds one needn't look into it to let go of it.
+impl<M: Copy> Drop for Room<M> {
+    fn drop(self) {
+        let Room {
+            reached: _,
+            rides: _,
+            moves: _,
+        } = self;
+    }
+}
+
+/// Puts positions in the order of their patterns, of their places there, and of when one gets there: so the rides from a position
+/// that are found first serve for all who get there.
+fn put_in_order(reached: &mut Vec<Reached>)
+    ensures moved { IsPermutation reached.old.items reached.new.items }
+    ensures rises { AreInOrder reached.new.items }
+{
+    reached.sort_unstable_by_key(|at| (at.serving.pattern, at.serving.position, at.earliest.0));
+}
+
+/// Whether the ride departs no earlier than one gets to the position.
+fn departs_since(caught: &CaughtRide, reached: &Reached) -> bool
+    ensures { result ≡ int_le reached.now.earliest.0 caught.now.facts.departure.0 }
+{
+    reached.earliest.0 <= caught.facts.departure.0
+}
+
+impl<'s, 'l, T: Tariff> Search<'s, 'l, T> {
+    /// No ride within the query's window is too late.
+    fn any(&self) -> Cutoff<'l>
+        ensures { cutoff_of result ≡ cutoff_by [] (deadline self.now.query) }
+    {
+        Cutoff {
+            spans: &[],
+            until: deadline(self.query()),
+        }
+    }
+
+    /// Appends the positions that the label reaches.
+    fn reach(
+        &self,
+        round: &Round<'s, '_, T::Fare, T::Move>,
+        source: &Source<T::Fare, T::Move>,
+        reached: &mut Vec<Reached>,
+    ) -> Result<(), AllocError>
+        requires round { IsRound (T.terms self.now.tariff) self.now.feed self.now.query round.now }
+        requires source { IsSource (T.terms self.now.tariff) self.now.feed self.now.query source.now }
+        ensures { OnOk result (AddsMarks (T.terms self.now.tariff) self.now.feed self.now.query round.now source.now reached.old.items reached.new.items) }
+    {
+        let who = Traveller {
+            standing: standing(source.label),
+            number: source.number,
+        };
+        round.positions.reach(&self.any(), &who, reached)
+    }
+
+    /// Replaces the positions by those that the labels of the round reach, in order.
+    fn mark(
+        &self,
+        round: &Round<'s, '_, T::Fare, T::Move>,
+        reached: &mut Vec<Reached>,
+    ) -> Result<(), AllocError>
+        requires { IsRound (T.terms self.now.tariff) self.now.feed self.now.query round.now }
+        ensures { OnOk result (AreReached (T.terms self.now.tariff) self.now.feed self.now.query round.now (length round.now.labels.now) reached.new.items) }
+    {
+        reached.clear();
+        for number in round.begin..round.labels.len() {
+            let source = Source {
+                labels: round.labels,
+                number: number as u32,
+                label: &round.labels[number],
+            };
+            self.reach(round, &source, reached)?;
+        }
+        put_in_order(reached);
+        Ok(())
+    }
+
+    /// Offers what those of the rides from the position lead to that depart no earlier than the label gets there.
+    fn offer_rides(
+        &self,
+        bags: &mut StopBags<T::Fare, T::Move>,
+        round: &Round<'s, '_, T::Fare, T::Move>,
+        source: &Source<T::Fare, T::Move>,
+        reached: &Reached,
+        rides: &[CaughtRide],
+        moves: &mut Vec<T::Move>,
+    ) -> Result<(), AllocError>
+        requires round { IsRound (T.terms self.now.tariff) self.now.feed self.now.query round.now }
+        requires source { IsSource (T.terms self.now.tariff) self.now.feed self.now.query source.now }
+        requires from { IsReachedFrom round.now.positions.now (stand_of_facts (facts_of source.now.label.now)) reached.now }
+        requires holds { HoldsFrom round.now.positions.now (cutoff_by [] (deadline self.now.query)) reached.now rides.now }
+        requires stops { length bags.old ≡ length self.now.feed.stops }
+        ensures spreads { OnOk result (SpreadsFrom T.Fare.at_most (T.terms self.now.tariff) self.now.feed self.now.query source.now (StepsAt (T.terms self.now.tariff) self.now.feed self.now.query round.now.positions.now (facts_of source.now.label.now) reached.now) (in_bags bags.old) (in_bags bags.new)) }
+        ensures stops { OnOk result (length bags.new ≡ length bags.old) }
+    {
+        for k in 0..rides.len() {
+            let caught = &rides[k];
+            if departs_since(caught, reached) {
+                self.offer_ride(bags, source, caught, moves)?;
+            }
+        }
+        Ok(())
+    }
+
+    /// Offers what one more ride from the position leads to, from the label that reaches it. The rides from there are kept.
+    fn offer_from(
+        &self,
+        bags: &mut StopBags<T::Fare, T::Move>,
+        round: &Round<'s, '_, T::Fare, T::Move>,
+        reached: &Reached,
+        rides: &mut KeptRides,
+        moves: &mut Vec<T::Move>,
+    ) -> Result<(), AllocError>
+        requires round { IsRound (T.terms self.now.tariff) self.now.feed self.now.query round.now }
+        requires marked { IsMarked round.now reached.now }
+        requires kept { AreKept round.now.positions.now (cutoff_by [] (deadline self.now.query)) rides.old }
+        requires stops { length bags.old ≡ length self.now.feed.stops }
+        ensures kept { OnOk result (AreKept round.now.positions.now (cutoff_by [] (deadline self.now.query)) rides.new) }
+        ensures spreads { OnOk result (SpreadsIn T.Fare.at_most (T.terms self.now.tariff) self.now.feed self.now.query round.now (StepsFromPosition (T.terms self.now.tariff) self.now.feed self.now.query round.now reached.now) (in_bags bags.old) (in_bags bags.new)) }
+        ensures stops { OnOk result (length bags.new ≡ length bags.old) }
+    {
+        let any = self.any();
+        round.positions.keep(rides, &any, &any, reached)?;
+        let source = Source {
+            labels: round.labels,
+            number: reached.number,
+            label: &round.labels[reached.number as usize],
+        };
+        self.offer_rides(bags, round, &source, reached, rides.rides(), moves)
+    }
+
+    /// Offers what one more ride leads to from the labels of the round, position by position. What the room holds is lost.
+    pub(crate) fn offer_round(
+        &self,
+        bags: &mut StopBags<T::Fare, T::Move>,
+        round: &Round<'s, '_, T::Fare, T::Move>,
+        room: &mut Room<T::Move>,
+    ) -> Result<(), AllocError>
+        requires round { IsRound (T.terms self.now.tariff) self.now.feed self.now.query round.now }
+        requires stops { length bags.old ≡ length self.now.feed.stops }
+        ensures spreads { OnOk result (SpreadsIn T.Fare.at_most (T.terms self.now.tariff) self.now.feed self.now.query round.now (StepsFrom (search_of T.Fare.at_most (T.terms self.now.tariff) self.now.feed self.now.query) round.now.labels.now round.now.count) (in_bags bags.old) (in_bags bags.new)) }
+        ensures stops { OnOk result (length bags.new ≡ length bags.old) }
+    {
+        self.mark(round, &mut room.reached)?;
+        room.rides.clear();
+        for k in 0..room.reached.len() {
+            let reached = room.reached[k];
+            self.offer_from(bags, round, &reached, &mut room.rides, &mut room.moves)?;
+        }
+        Ok(())
+    }
+}
