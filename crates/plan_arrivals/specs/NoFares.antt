@@ -24,6 +24,7 @@ no_fares = record {
   Pays = λ a ride move. Unit {0};
   after = λ a ride move. no_fare;
   price = λ fare. pos 0;
+  least = λ fare. pos 0;
   IsFare = λ rides fare. Unit {0};
 }
 
@@ -33,4 +34,7 @@ free_lawful = record {
   stays = λ a ride move fare pays. tt;
   follow = λ a b ride move of_a of_b covers pays. record { move = move; pays = tt; below = refl };
   costs = λ a b below. omega (arith, ints);
+  least_ends = λ a. omega (arith, ints);
+  least_stays = λ a ride move fare pays. omega (arith, ints);
+  least_below = λ a b below. omega (arith, ints);
 }

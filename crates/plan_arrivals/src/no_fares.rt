@@ -61,5 +61,9 @@ impl Tariff for NoFares {
         Money(0)
     }
 
+    fn least(&self, _label: &Label<NoFare, NoMove>) -> Money {
+        Money(0)
+    }
+
     ghost lawful = { λ s. free_lawful };
 }

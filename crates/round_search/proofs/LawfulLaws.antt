@@ -47,6 +47,13 @@ caught_sooner x y (Some s) ride le caught = sooner x y ride.departure.0 s le cau
 ridden : (n : ℕ) → ((n + 1) == 0) ≡ false
 ridden n = ne_eqb (n + 1) 0 (λ e. omega (arith, e))
 
+-- triples with no greater parts are at most others
+pub parts_below : (a b : Triple) → a.arrival.0 ≤ℤ b.arrival.0 → a.rides ≤ b.rides → a.price.0 ≤ℤ b.price.0 → is_no_worse a b ≡ true
+parts_below a b = by a.arrival.0 b.arrival.0 a.price.0 b.price.0 a.rides b.rides
+  where
+    by : (x x' p p' : ℤ) (n n' : ℕ) → x ≤ℤ x' → n ≤ n' → p ≤ℤ p' → (int_le x x' && nat_le n n' && int_le p p') ≡ true
+    by x x' p p' n n' le few less = grind (arith, ints, nat_tests, le, few, less)
+
 module _ {F M : Type 0} (at_most : F → F → Bool) (t : Terms F M) (laws : OrderLaws at_most) (lawful : IsLawful at_most t)
     (feed : FeedRows) (query : Query) where
   pub covers-trans : (a b c : Facts F) → Covers at_most a b → Covers at_most b c → Covers at_most a c
@@ -122,13 +129,6 @@ module _ {F M : Type 0} (at_most : F → F → Bool) (t : Terms F M) (laws : Ord
   abbrev end_at : Facts F → ℤ → Triple
   end_at a arrival = record { arrival = record { 0 = arrival }; rides = a.rides; price = record { 0 = t.price a.fare } }
 
-  end_below : (a : Facts F) (arrival : ℤ) (worse : Triple) → arrival ≤ℤ worse.arrival.0 → a.rides ≤ worse.rides →
-      t.price a.fare ≤ℤ worse.price.0 → is_no_worse (end_at a arrival) worse ≡ true
-  end_below a arrival worse = by arrival worse.arrival.0 (t.price a.fare) worse.price.0 a.rides worse.rides
-    where
-      by : (x x' p p' : ℤ) (n n' : ℕ) → x ≤ℤ x' → n ≤ n' → p ≤ℤ p' → (int_le x x' && nat_le n n' && int_le p p') ≡ true
-      by x x' p p' n n' le few less = grind (arith, ints, nat_tests, le, few, less)
-
   ends_no_worse : (a b : Facts F) (last : StopId) (worse : Triple) → Covers at_most a b → IsEnd t feed query b last worse →
       EndsNoWorse (ways at_most t feed query) a last worse
   unfolding end_arrival
@@ -156,7 +156,7 @@ module _ {F M : Type 0} (at_most : F → F → Bool) (t : Terms F M) (laws : Ord
               price = refl;
             };
             below =
-                end_below a (a.arrival +ℤ pos s) worse later
+                parts_below (end_at a (a.arrival +ℤ pos s)) worse later
                 (let few = covers.rides in let same = e.rides in omega (arith, few, same))
                 (dearer (t.price a.fare) (t.price b.fare) worse.price.0 (lawful.costs a.fare b.fare covers.fare) e.price);
           }

@@ -22,12 +22,15 @@ use Rattle.plan_rides.proofs.DepartureLaws.{ride_end}
 use Rattle.plan_rides.proofs.MarkLaws.{member_of_stands_for}
 use Rattle.label_order.specs.Labels.{OrderLaws}
 use Rattle.search_laws.specs.Stores.{IsFresh, IsHeldBelow}
+use Rattle.round_search.specs.declared.finals.Final.{Final}
 use Rattle.round_search.specs.declared.label.Label.{Label}
 use Rattle.round_search.specs.declared.search.Source.{Source}
+use Rattle.round_search.specs.Cuts.{IsCut}
 use Rattle.round_search.specs.Labels.{facts_of}
-use Rattle.round_search.specs.Searches.{IsNever, IsSource, IsStartAmong, LeadsByFirst, SpreadsFrom, StepsBy, StepsByFirst, StepsTo, search_of}
+use Rattle.round_search.specs.Searches.{IsSource, IsStartAmong, LeadsByFirst, SpreadsFrom, StepsBy, StepsByFirst, search_of}
 use Rattle.round_search.specs.Steps.{IsCaughtFrom, IsStep, facts_after, stand_of_facts, start_facts, ways}
 use Rattle.round_search.specs.Terms.{AreEnough, Covers, Facts, IsLawful, Terms}
+use Rattle.round_search.proofs.CutLaws.{cut_below}
 use Rattle.round_search.proofs.LawfulLaws.{covers-trans}
 use Rattle.round_search.proofs.StopLaws.{stands_inside}
 
@@ -172,11 +175,11 @@ module _ {F M : Type 0} (at_most : F → F → Bool) (t : Terms F M) (laws : Ord
           (same_Some _ _ (sym leads.3 ∙ ap (slice_get moves) same ∙ at)))) (cases_lt leads.0 k)
 
       -- the moves were enough: what the ride leads to by any is held where what it leads to by each of them is
-      pub spreads_by : (moves : List M) (n : ℕ) (old new : List (Label F M)) →
+      pub spreads_by : (finals : List Final) (moves : List M) (n : ℕ) (old new : List (Label F M)) →
           AreEnough at_most t (facts_of from) caught.facts moves → length moves ≤ n →
-          SpreadsFrom at_most t feed query source (LeadsByFirst t (facts_of from) caught moves n) old new →
-          SpreadsFrom at_most t feed query source (StepsBy t feed query (facts_of from) caught.ride) old new
-      spreads_by moves n old new enough all spreads = record {
+          SpreadsFrom at_most t feed query finals source (LeadsByFirst t (facts_of from) caught moves n) old new →
+          SpreadsFrom at_most t feed query finals source (StepsBy t feed query (facts_of from) caught.ride) old new
+      spreads_by finals moves n old new enough all spreads = record {
         still = spreads.still;
         kept = spreads.kept;
         right = spreads.right;
@@ -203,12 +206,13 @@ module _ {F M : Type 0} (at_most : F → F → Bool) (t : Terms F M) (laws : Ord
               )
 
           held : (b : Facts F) → StepsBy t feed query (facts_of from) caught.ride b →
-              IsHeldBelow (Covers at_most) facts_of new b ⊎ IsNever b
+              IsHeldBelow (Covers at_most) facts_of new b ⊎ IsCut t finals b
           held b by =
               let some = below_step b by in
               let at = slice_get-Contains moves some.0 some.1 in
               let lt = slice_get_within moves at.0 some.0 at.1 in
-              ⊎_elim (λ h. inl (h.0, h.1, covers-trans at_most t laws lawful feed query (facts_of h.0) (facts_after t (facts_of from) caught.facts some.0) b h.2 some.2)) inr
+              ⊎_elim (λ h. inl (h.0, h.1, covers-trans at_most t laws lawful feed query (facts_of h.0) (facts_after t (facts_of from) caught.facts some.0) b h.2 some.2))
+              (λ cut. inr (cut_below at_most t laws lawful feed query finals (facts_after t (facts_of from) caught.facts some.0) b some.2 cut))
               (spreads.all (facts_after t (facts_of from) caught.facts some.0) (at.0, omega (arith, lt, all), some.0, at.1, refl))
 
     -- one more of the rides

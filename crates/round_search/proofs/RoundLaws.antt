@@ -1,6 +1,6 @@
 -- What a search holds after each round, and after all.
-use Rattle.std.proofs.Common.{◌≡◌, ℕ, ◌+◌, ◌≤◌, ⊎_elim, Bool, true, List, arith}
-use Rattle.std.specs.Prelude.{All, Contains, slice_get, ◌==◌}
+use Rattle.std.proofs.Common.{◌≡◌, ℕ, ◌+◌, ◌≤◌, Bool, true, List, arith}
+use Rattle.std.specs.Prelude.{All, Contains, ◌==◌}
 use Rattle.std.proofs.lemmas.Bool.{eqb-true}
 use Rattle.std.proofs.lemmas.List.Elements.{All-nil}
 use Rattle.std.proofs.lemmas.Option.{slice_get_within}
@@ -8,21 +8,25 @@ use Rattle.transit_base.specs.declared.numbers.StopId.{StopId}
 use Rattle.feed_rows.specs.declared.fares.Triple.{Triple}
 use Rattle.feed_rows.specs.declared.journeys.Query.{Query}
 use Rattle.feed_rows.specs.FeedRows.{FeedRows}
+use Rattle.feed_rows.specs.SoundFeed.{IsSoundFeed}
+use Rattle.feed_laws.proofs.ParetoLaws.{at_most-refl}
 use Rattle.label_order.specs.Labels.{OrderLaws}
 use Rattle.plain_laws.proofs.Laws.{All-from, All-slice_get, Contains-filter_passes, slice_get-Contains}
 use Rattle.plan_rides.specs.InTime.{IsUsualQuery}
-use Rattle.search_laws.specs.Cuts.{AreCuts, MayLack}
+use Rattle.search_laws.specs.Cuts.{MayLack}
 use Rattle.search_laws.specs.Stores.{AreWhole}
 use Rattle.search_laws.proofs.CoverLaws.{each_found}
 use Rattle.search_laws.proofs.StoreLaws.{whole_of, whole_weaker}
 use Rattle.round_search.specs.declared.finals.Final.{Final}
 use Rattle.round_search.specs.declared.label.Label.{Label}
 use Rattle.round_search.specs.Bags.{gathered}
+use Rattle.round_search.specs.Cuts.{Cuts, IsCut, least_end}
 use Rattle.round_search.specs.Finals.{IsFinal, is_bettered}
 use Rattle.round_search.specs.Labels.{facts_of}
-use Rattle.round_search.specs.Searches.{AreEnding, AreLast, IsFit, IsGathered, IsNever, IsSearched, search_of, told}
+use Rattle.round_search.specs.Searches.{AreEnding, AreLast, IsFit, IsGathered, IsSearched, search_of, told}
 use Rattle.round_search.specs.Steps.{IsEnd, ways}
-use Rattle.round_search.specs.Terms.{Facts, IsLawful, Terms}
+use Rattle.round_search.specs.Terms.{IsLawful, Terms}
+use Rattle.round_search.proofs.CutLaws.{cuts}
 use Rattle.round_search.proofs.FinalLaws.{bettered_up}
 use Rattle.round_search.proofs.LawfulLaws.{cover_test, ways_lawful}
 
@@ -47,20 +51,12 @@ last_first {F} {M} labels none = record {
 
 module _ {F M : Type 0} (at_most : F → F → Bool) (t : Terms F M) (laws : OrderLaws at_most) (lawful : IsLawful at_most t)
     (feed : FeedRows) (query : Query) where
-  -- nothing is cut off
-  no_cuts : AreCuts (ways at_most t feed query) (λ triple a. ⊥)
-  no_cuts = record {
-    after = λ triple a b ride move step cut. cut;
-    below = λ triple a b covers cut. cut;
-    leads = λ triple n a other cut leads. absurd cut;
-  }
-
   module _ (begin : ℕ) (labels bags : List (Label F M)) (finals : List Final)
       (are : IsGathered at_most t feed query query.rides begin labels bags finals) where
-    whole : AreWhole (search_of at_most t feed query) IsNever query.rides labels
+    whole : AreWhole (search_of at_most t feed query) (IsCut t finals) query.rides labels
     whole =
         whole_of (search_of at_most t feed query) (cover_test at_most t laws lawful feed query) (query.rides + 1) labels bags are.stored
-        IsNever query.rides (omega arith) are.apart are.closed are.starts (λ x ride move b step. step.rides.few)
+        (IsCut t finals) query.rides (omega arith) are.apart are.closed are.starts (λ x ride move b step. step.rides.few)
 
     ended : (x : Label F M) (last : StopId) (triple : Triple) → Contains labels x → IsEnd t feed query (facts_of x) last triple →
         is_bettered finals triple
@@ -69,16 +65,17 @@ module _ {F M : Type 0} (at_most : F → F → Bool) (t : Terms F M) (laws : Ord
         are.ended.all triple (place.0, slice_get_within labels place.0 x place.1, x, place.1, (last, end))
 
     -- after all rounds all is found
-    pub searched_of : IsSearched at_most t feed query labels finals
-    searched_of = record {
+    pub searched_of : IsSoundFeed feed → IsSearched at_most t feed query labels finals
+    searched_of sound = record {
       whole = whole;
       right = are.ended.right (All-nil (IsFinal t feed query labels));
       all = λ n a last triple reached end.
           let more =
-          whole_weaker (search_of at_most t feed query) IsNever
-          (MayLack (ways at_most t feed query) (λ (triple : Triple) (b : Facts F). ⊥) true (is_bettered finals)) query.rides labels
-          (λ b never. absurd never) whole in
-          each_found (ways at_most t feed query) (ways_lawful at_most t laws lawful feed query) (told t feed query) (λ triple b. ⊥) no_cuts
+          whole_weaker (search_of at_most t feed query) (IsCut t finals)
+          (MayLack (ways at_most t feed query) (Cuts t) true (is_bettered finals)) query.rides labels
+          (λ b cut. (least_end t b, cut, at_most-refl (least_end t b))) whole in
+          each_found (ways at_most t feed query) (ways_lawful at_most t laws lawful feed query) (told t feed query) (Cuts t)
+          (cuts at_most t laws lawful feed query sound)
           (is_bettered finals) (λ s worse le found. bettered_up finals s worse found le) true labels more.linked more.starts more.closed
           ended n a last triple reached end;
     }

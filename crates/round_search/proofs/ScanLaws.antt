@@ -1,5 +1,5 @@
 -- What the positions are that labels reach, and what is offered of the rides from them.
-use Rattle.std.proofs.Common.{◌≡◌, refl, sym, ◌∙◌, ap, subst, ℕ, ◌+◌, ◌<◌, ◌≤◌, ◌⊎◌, inl, inr, ⊎_elim, Bool, true, false, List, [], length, arith, ℤ, ◌≤ℤ◌, ◌<ℤ◌, Vec, Global, slice_index_or}
+use Rattle.std.proofs.Common.{◌≡◌, refl, sym, ◌∙◌, ap, subst, ℕ, ◌+◌, ◌<◌, ◌≤◌, ◌⊎◌, inl, inr, ⊎_elim, Bool, true, false, List, [], length, arith, ℤ, ◌<ℤ◌, Vec, Global, slice_index_or}
 use Rattle.std.specs.Prelude.{Some, slice_get, Contains, IsPermutation, int_le}
 use Rattle.std.proofs.lemmas.Bool.{cases_lt}
 use Rattle.std.proofs.lemmas.Int.{ints}
@@ -19,15 +19,16 @@ use Rattle.plan_rides.specs.declared.caught.CaughtRide.{CaughtRide}
 use Rattle.plan_rides.specs.declared.positions.Reached.{Reached}
 use Rattle.plan_rides.proofs.CutoffLaws.{any_last, early_any}
 use Rattle.plan_rides.proofs.FoundLaws.{has_kept, kept_never, kept_right}
-use Rattle.search_laws.specs.Stores.{AreStored}
 use Rattle.round_search.specs.declared.label.Label.{Label}
 use Rattle.round_search.specs.declared.scan.Round.{Round}
 use Rattle.round_search.specs.declared.search.Source.{Source}
+use Rattle.round_search.specs.Cuts.{IsCut}
 use Rattle.round_search.specs.Labels.{facts_of}
-use Rattle.round_search.specs.Scans.{AddsMarks, AreReached, IsMarked, IsOrigin, IsRound, StepsAmong, StepsAt, StepsAtFirst, StepsFromPosition}
+use Rattle.round_search.specs.Scans.{AddsMarks, AreReached, IsOrigin, IsRound, StepsAmong, StepsAt, StepsAtFirst, StepsFromPosition}
 use Rattle.round_search.specs.Searches.{IsSource, StepsBy, StepsByFirst, StepsTo}
 use Rattle.round_search.specs.Steps.{IsStep, stand_of_facts}
 use Rattle.round_search.specs.Terms.{Facts, IsLawful, Terms}
+use Rattle.round_search.proofs.CutLaws.{cut_after}
 use Rattle.round_search.proofs.RideLaws.{in_time_of}
 use Rattle.round_search.proofs.SourceLaws.{within_more}
 
@@ -100,10 +101,10 @@ module _ {F M : Type 0} (at_most : F → F → Bool) (t : Terms F M) (laws : Ord
         AreReached t feed query round k old → AddsMarks t feed query round source old new → AreReached t feed query round (k + 1) new
     label_reached source k old new numbered at since before adds = record {
       all = λ b steps. ⊎_elim
-          (λ lower. let among = before.all b lower in (among.0, adds.still among.0 among.1, among.2))
+          (λ lower. ⊎_elim (λ among. inl (among.0, adds.still among.0 among.1, among.2)) inr (before.all b lower))
           (λ to.
           let has = adds.all b to in
-          (has.0, has.1, (source.label.now, ap (slice_get round.labels.now) (has.2 ∙ numbered) ∙ at, has.3)))
+          inl (has.0, has.1, (source.label.now, ap (slice_get round.labels.now) (has.2 ∙ numbered) ∙ at, has.3)))
           (within_more at_most t feed query round.labels.now round.begin k source.label.now b at steps);
       right = λ reached has. ⊎_elim (before.right reached)
           (λ own. record {
@@ -117,11 +118,21 @@ module _ {F M : Type 0} (at_most : F → F → Bool) (t : Terms F M) (laws : Ord
           (adds.right reached has);
     }
 
+    -- those of one label more that is cut off
+    pub label_passed : (k : ℕ) (x : Label F M) (list : List Reached) → slice_get round.labels.now k ≡ Some x →
+        IsCut t round.finals.now (facts_of x) → AreReached t feed query round k list → AreReached t feed query round (k + 1) list
+    label_passed k x list at cut before = record {
+      all = λ b steps. ⊎_elim (before.all b)
+          (λ to. inr (cut_after at_most t laws lawful feed query is.sound round.finals.now (facts_of x) b to.0 to.1 to.2 cut))
+          (within_more at_most t feed query round.labels.now round.begin k x b at steps);
+      right = before.right;
+    }
+
     -- in another order
     pub reached_moved : (n : ℕ) (old new : List Reached) → IsPermutation old new → AreReached t feed query round n old →
         AreReached t feed query round n new
     reached_moved n old new moved before = record {
-      all = λ b steps. let among = before.all b steps in (among.0, Contains-permutation old new among.0 moved among.1, among.2);
+      all = λ b steps. ⊎_elim (λ among. inl (among.0, Contains-permutation old new among.0 moved among.1, among.2)) inr (before.all b steps);
       right = λ reached at. before.right reached (Contains-permutation new old reached (IsPermutation-sym old new moved) at);
     }
 

@@ -3,6 +3,7 @@ pub mod Labels
 pub mod CoverLaws
 pub mod Bags
 pub mod Steps
+pub mod Cuts
 pub mod Searches
 pub mod Finals
 pub mod Scans

@@ -4,6 +4,7 @@ use Rattle.std.specs.List.Sorted.{IsSortedByKey}
 use Rattle.std.specs.Ordering.{nat_cmp, int_cmp, ordering_then}
 use Rattle.feed_rows.specs.declared.journeys.Query.{Query}
 use Rattle.feed_rows.specs.FeedRows.{FeedRows}
+use Rattle.feed_rows.specs.SoundFeed.{IsSoundFeed}
 use Rattle.plan_rides.specs.Boarding.{MayRide}
 use Rattle.plan_rides.specs.Departures.{TakesServing}
 use Rattle.plan_rides.specs.InTime.{IsUsualQuery}
@@ -13,8 +14,9 @@ use Rattle.search_laws.specs.Stores.{Spreads}
 use Rattle.round_search.specs.declared.label.Label.{Label}
 use Rattle.round_search.specs.declared.scan.Round.{Round}
 use Rattle.round_search.specs.declared.search.Source.{Source}
+use Rattle.round_search.specs.Cuts.{IsCut}
 use Rattle.round_search.specs.Labels.{facts_of}
-use Rattle.round_search.specs.Searches.{AreLast, IsFit, IsNever, StepsTo, StepsWithin, search_of}
+use Rattle.round_search.specs.Searches.{AreLast, IsFit, StepsTo, StepsWithin, search_of}
 use Rattle.round_search.specs.Steps.{stand_of_facts}
 use Rattle.round_search.specs.Terms.{Facts, Terms}
 
@@ -30,17 +32,18 @@ pub record IsOrigin {F M : Type 0} (t : Terms F M) (feed : FeedRows) (query : Qu
 pub record IsRound {F M : Type 0} (t : Terms F M) (feed : FeedRows) (query : Query) (round : Round F M) : Type 0 where
   pub of : round.positions.now.feed ≡ feed
   pub for : round.positions.now.query ≡ query
+  pub sound : IsSoundFeed feed
   pub usual : IsUsualQuery query
   pub numbers : length round.labels.now < 2 ^ 32
   pub last : AreLast round.count round.begin round.labels.now
   pub origins : (number : ℕ) (x : Label F M) → slice_get round.labels.now number ≡ Some x → round.begin ≤ number →
       IsOrigin t feed query x
 
--- the labels with one ride more gain those that cover this part
+-- the labels with one ride more gain those that cover this part, but for what the finals cut off
 abbrev pub SpreadsIn : {F M : Type 0} → (F → F → Bool) → Terms F M → FeedRows → Query → Round F M → (Facts F → Type 0) →
     List (Label F M) → List (Label F M) → Type 0
 SpreadsIn at_most t feed query round Part old new =
-    Spreads (search_of at_most t feed query) IsNever round.labels.now (round.count + 1) Part old new
+    Spreads (search_of at_most t feed query) (IsCut t round.finals.now) round.labels.now (round.count + 1) Part old new
 
 -- ---- positions that are reached
 
@@ -92,7 +95,9 @@ pub record AddsMarks {F M : Type 0} (t : Terms F M) (feed : FeedRows) (query : Q
       ⊎ ((reached.number ≡ source.number)
       × IsReachedFrom round.positions.now (stand_of_facts (facts_of source.label.now)) reached)
 
--- each step from one of the last labels before the n-th leads there by one of the positions; each of them is reached by such a label
+-- each step from one of the last labels before the n-th leads there by one of the positions, or is cut off; each of them is reached by
+-- such a label
 pub record AreReached {F M : Type 0} (t : Terms F M) (feed : FeedRows) (query : Query) (round : Round F M) (n : ℕ) (list : List Reached) : Type 0 where
-  pub all : (b : Facts F) → StepsWithin t feed query round.labels.now round.begin n b → StepsAmong t feed query round list b
+  pub all : (b : Facts F) → StepsWithin t feed query round.labels.now round.begin n b →
+      StepsAmong t feed query round list b ⊎ IsCut t round.finals.now b
   pub right : (reached : Reached) → Contains list reached → IsMarked round reached

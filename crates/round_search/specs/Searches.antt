@@ -15,6 +15,7 @@ use Rattle.search_laws.specs.Ways.{IsReached}
 use Rattle.round_search.specs.declared.label.Label.{Label}
 use Rattle.round_search.specs.declared.search.Source.{Source}
 use Rattle.round_search.specs.declared.finals.Final.{Final}
+use Rattle.round_search.specs.Cuts.{IsCut}
 use Rattle.round_search.specs.Finals.{AddsEnds, EndsBelow, IsFinal, is_bettered}
 use Rattle.round_search.specs.Labels.{covers, facts_of}
 use Rattle.round_search.specs.Steps.{IsEnd, IsStep, facts_after, stand_of_facts, start_facts, ways}
@@ -58,7 +59,7 @@ told t feed query = record {
   GoesOn = GoesOn;
 }
 
--- nothing is cut off
+-- none of its labels needs to be without ends that cut it off
 abbrev pub search_of : {F M : Type 0} → (F → F → Bool) → Terms F M → FeedRows → Query →
     Search (Label F M) (Facts F) Ride M StopId Triple
 search_of at_most t feed query = record {
@@ -116,11 +117,11 @@ pub record AreLast {F M : Type 0} (rides begin : ℕ) (labels : List (Label F M)
   pub last : (i : ℕ) (x : Label F M) → slice_get labels i ≡ Some x → begin ≤ i → x.rides ≡ rides
   pub before : (i : ℕ) (x : Label F M) → slice_get labels i ≡ Some x → i < begin → x.rides < rides
 
--- the bags gain what covers this part, with one ride more than the source
-abbrev pub SpreadsFrom : {F M : Type 0} → (F → F → Bool) → Terms F M → FeedRows → Query → Source F M → (Facts F → Type 0) →
+-- the bags gain what covers this part but for what the finals cut off, with one ride more than the source
+abbrev pub SpreadsFrom : {F M : Type 0} → (F → F → Bool) → Terms F M → FeedRows → Query → List Final → Source F M → (Facts F → Type 0) →
     List (Label F M) → List (Label F M) → Type 0
-SpreadsFrom at_most t feed query source Part old new =
-    Spreads (search_of at_most t feed query) IsNever source.labels.now (source.label.now.rides + 1) Part old new
+SpreadsFrom at_most t feed query finals source Part old new =
+    Spreads (search_of at_most t feed query) (IsCut t finals) source.labels.now (source.label.now.rides + 1) Part old new
 
 -- ---- labels that end
 
@@ -145,7 +146,7 @@ pub record IsGathered {F M : Type 0} (at_most : F → F → Bool) (t : Terms F M
     (labels bags : List (Label F M)) (finals : List Final) : Type 0 where
   pub stored : AreStored (search_of at_most t feed query) (rides + 1) labels bags
   pub apart : AreApart (covers at_most) bags
-  pub closed : AreClosedTo (search_of at_most t feed query) IsNever rides labels
+  pub closed : AreClosedTo (search_of at_most t feed query) (IsCut t finals) rides labels
   pub starts : CoversStarts (ways at_most t feed query) (told t feed query) labels
   pub ended : AddsEnds t feed query labels (EndsBelow t feed query labels (length labels)) [] finals
   pub numbers : length labels < 2 ^ 32
@@ -155,7 +156,7 @@ pub record IsGathered {F M : Type 0} (at_most : F → F → Bool) (t : Terms F M
 -- and so all in which ways of the search end
 pub record IsSearched {F M : Type 0} (at_most : F → F → Bool) (t : Terms F M) (feed : FeedRows) (query : Query)
     (labels : List (Label F M)) (finals : List Final) : Type 0 where
-  pub whole : AreWhole (search_of at_most t feed query) IsNever query.rides labels
+  pub whole : AreWhole (search_of at_most t feed query) (IsCut t finals) query.rides labels
   pub right : All (IsFinal t feed query labels) finals
   pub all : (n : ℕ) (a : Facts F) (last : StopId) (triple : Triple) → IsReached (ways at_most t feed query) n a →
       IsEnd t feed query a last triple → is_bettered finals triple

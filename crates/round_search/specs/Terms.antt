@@ -20,6 +20,8 @@ pub record Terms (F M : Type 0) : Type 1 where
   pub after : Facts F → RideFacts → M → F
   -- what a journey costs that ends with such a fare
   pub price : F → ℤ
+  -- no journey that goes on with such a fare costs less
+  pub least : F → ℤ
   -- partial journeys of so many rides have such a fare
   pub IsFare : ℕ → F → Type 0
 
@@ -38,7 +40,8 @@ pub record PaysNoWorse {F M : Type 0} (at_most : F → F → Bool) (t : Terms F 
   pub pays : t.Pays a ride move
   pub below : at_most (t.after a ride move) worse ≡ true
 
--- what makes a search by fares right: what is as good pays each ride no worse, and costs no more
+-- what makes a search by fares right: what is as good pays each ride no worse, and costs no more; and what is known of all that goes
+-- on is so, more is known the further one goes, and no more of what is as good
 pub record IsLawful {F M : Type 0} (at_most : F → F → Bool) (t : Terms F M) : Type 0 where
   pub begins : t.IsFare 0 t.begins
   pub stays : (a : Facts F) (ride : RideFacts) (move : M) → t.IsFare a.rides a.fare → t.Pays a ride move →
@@ -46,6 +49,10 @@ pub record IsLawful {F M : Type 0} (at_most : F → F → Bool) (t : Terms F M) 
   pub follow : (a b : Facts F) (ride : RideFacts) (move : M) → t.IsFare a.rides a.fare → t.IsFare b.rides b.fare →
       Covers at_most a b → t.Pays b ride move → PaysNoWorse at_most t a ride (t.after b ride move)
   pub costs : (a b : F) → at_most a b ≡ true → t.price a ≤ℤ t.price b
+  pub least_ends : (a : F) → t.least a ≤ℤ t.price a
+  pub least_stays : (a : Facts F) (ride : RideFacts) (move : M) → t.IsFare a.rides a.fare → t.Pays a ride move →
+      t.least a.fare ≤ℤ t.least (t.after a ride move)
+  pub least_below : (a b : F) → at_most a b ≡ true → t.least a ≤ℤ t.least b
 
 -- each of these moves pays the ride, and of each that pays it one of them leads to what is as good
 pub record AreEnough {F M : Type 0} (at_most : F → F → Bool) (t : Terms F M) (a : Facts F) (ride : RideFacts) (moves : List M) : Type 0 where

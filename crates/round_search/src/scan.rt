@@ -12,18 +12,21 @@ ghost use Rattle.round_search.specs.Searches.{IsSource, SpreadsFrom, search_of};
 ghost use Rattle.round_search.specs.Steps.{stand_of_facts};
 
 use crate::bags::StopBags;
+use crate::finals::Final;
 use crate::label::Label;
 use crate::search::{Search, Source, standing};
 use crate::tariff::Tariff;
+use pareto_front::Front;
 use plan_rides::{CaughtRide, Cutoff, KeptRides, Positions, Reached, Traveller, deadline};
 use std::alloc::AllocError;
 
-/// What a round goes on from: where riders may board, the labels, from which number on these are the last, and how many rides they
-/// have.
+/// What a round goes on from: where riders may board, the labels, what is found by now, from which number on the labels are the last,
+/// and how many rides those have.
 #[derive(Clone, Copy)]
 pub struct Round<'s, 'r, F: Copy, M: Copy> {
     pub(crate) positions: &'r Positions<'s>,
     pub(crate) labels: &'r [Label<F, M>],
+    pub(crate) finals: &'r Front<Final>,
     pub(crate) begin: usize,
     pub(crate) count: u8,
 }
@@ -92,7 +95,7 @@ impl<'s, 'l, T: Tariff> Search<'s, 'l, T> {
         round.positions.reach(&self.any(), &who, reached)
     }
 
-    /// Replaces the positions by those that the labels of the round reach, in order.
+    /// Replaces the positions by those that the labels of the round reach which aren't cut off, in order.
     fn mark(
         &self,
         round: &Round<'s, '_, T::Fare, T::Move>,
@@ -108,7 +111,9 @@ impl<'s, 'l, T: Tariff> Search<'s, 'l, T> {
                 number: number as u32,
                 label: &round.labels[number],
             };
-            self.reach(round, &source, reached)?;
+            if !self.is_cut(round.finals, source.label) {
+                self.reach(round, &source, reached)?;
+            }
         }
         put_in_order(reached);
         Ok(())
@@ -129,13 +134,13 @@ impl<'s, 'l, T: Tariff> Search<'s, 'l, T> {
         requires from { IsReachedFrom round.now.positions.now (stand_of_facts (facts_of source.now.label.now)) reached.now }
         requires holds { HoldsFrom round.now.positions.now (cutoff_by [] (deadline self.now.query)) reached.now rides.now }
         requires stops { length bags.old ≡ length self.now.feed.stops }
-        ensures spreads { OnOk result (SpreadsFrom T.Fare.at_most (T.terms self.now.tariff) self.now.feed self.now.query source.now (StepsAt (T.terms self.now.tariff) self.now.feed self.now.query round.now.positions.now (facts_of source.now.label.now) reached.now) (in_bags bags.old) (in_bags bags.new)) }
+        ensures spreads { OnOk result (SpreadsFrom T.Fare.at_most (T.terms self.now.tariff) self.now.feed self.now.query round.now.finals.now source.now (StepsAt (T.terms self.now.tariff) self.now.feed self.now.query round.now.positions.now (facts_of source.now.label.now) reached.now) (in_bags bags.old) (in_bags bags.new)) }
         ensures stops { OnOk result (length bags.new ≡ length bags.old) }
     {
         for k in 0..rides.len() {
             let caught = &rides[k];
             if departs_since(caught, reached) {
-                self.offer_ride(bags, source, caught, moves)?;
+                self.offer_ride(bags, round.finals, source, caught, moves)?;
             }
         }
         Ok(())

@@ -1,6 +1,7 @@
 //! The search: each round goes on by one more ride from the labels of the round before.
 ghost use Rattle.std.specs.Prelude.{◌≡◌, ◌+◌, ◌<◌, ◌≤◌, ◌^◌, ◌++◌, [], length, IfOk, IsTrue, OnOk, slice_get, Some};
 ghost use Rattle.feed_rows.specs.Journeys.{stands_for};
+ghost use Rattle.feed_rows.specs.Limits.{most_rides};
 ghost use Rattle.feed_rows.specs.SoundFeed.{IsSoundFeed};
 ghost use Rattle.feed_rows.specs.StopLinks.{stop_set};
 ghost use Rattle.feed_timetable.specs.Standings.{stand_of};
@@ -8,6 +9,7 @@ ghost use Rattle.label_bag.specs.Bags.{AreApart};
 ghost use Rattle.plan_rides.specs.InTime.{IsRight, IsUsualQuery};
 ghost use Rattle.search_laws.specs.Stores.{AreStored, AreWhole, Spreads, StepsFrom};
 ghost use Rattle.round_search.specs.Bags.{gathered, in_bags};
+ghost use Rattle.round_search.specs.Cuts.{IsCut, is_cut};
 ghost use Rattle.round_search.specs.Finals.{AddsEnds, EndsBelow, EndsIn};
 ghost use Rattle.round_search.specs.Labels.{covers, facts_of};
 ghost use Rattle.round_search.specs.Searches.{AreEnding, AreLast, IsGathered, IsNever, IsSearched, IsEnding, IsSource, SpreadsFrom, StepsBy, StepsTo, search_of};
@@ -147,10 +149,28 @@ impl<'s, 'l, T: Tariff> Search<'s, 'l, T> {
         Ok(())
     }
 
-    /// Offers what the ride leads to from the label by the move.
+    /// Whether something that is found is as good as whatever the label leads to.
+    pub(crate) fn is_cut(&self, finals: &Front<Final>, label: &Label<T::Fare, T::Move>) -> bool
+        requires fare { (T.terms self.now.tariff).IsFare label.now.rides label.now.fare }
+        requires few { label.now.rides ≤ most_rides }
+        ensures { result ≡ is_cut (T.terms self.now.tariff) finals.now (facts_of label.now) }
+    {
+        finals.covers(&Final {
+            triple: Triple {
+                arrival: label.arrival,
+                rides: label.rides,
+                price: self.tariff.least(label),
+            },
+            label: 0,
+            last: label.stop,
+        })
+    }
+
+    /// Offers what the ride leads to from the label by the move, unless it is cut off.
     fn offer_move(
         &self,
         bags: &mut StopBags<T::Fare, T::Move>,
+        finals: &Front<Final>,
         source: &Source<T::Fare, T::Move>,
         caught: &CaughtRide,
         taken: &T::Move,
@@ -159,13 +179,13 @@ impl<'s, 'l, T: Tariff> Search<'s, 'l, T> {
         requires right { IsRight self.now.feed self.now.query (stand_of_facts (facts_of source.now.label.now)) caught.now }
         requires pays { (T.terms self.now.tariff).Pays (facts_of source.now.label.now) caught.now.facts taken.now }
         requires stops { length bags.old ≡ length self.now.feed.stops }
-        ensures spreads { OnOk result (SpreadsFrom T.Fare.at_most (T.terms self.now.tariff) self.now.feed self.now.query source.now (λ b. b ≡ facts_after (T.terms self.now.tariff) (facts_of source.now.label.now) caught.now.facts taken.now) (in_bags bags.old) (in_bags bags.new)) }
+        ensures spreads { OnOk result (SpreadsFrom T.Fare.at_most (T.terms self.now.tariff) self.now.feed self.now.query finals.now source.now (λ b. b ≡ facts_after (T.terms self.now.tariff) (facts_of source.now.label.now) caught.now.facts taken.now) (in_bags bags.old) (in_bags bags.new)) }
         ensures stops { length bags.new ≡ length bags.old }
     {
         let _limit = self.limit();
         let _feed = self.feed();
         let label = source.label;
-        bags.offer(&Label {
+        let next = Label {
             stop: caught.facts.to,
             arrival: caught.facts.arrival,
             rides: label.rides + 1,
@@ -173,13 +193,18 @@ impl<'s, 'l, T: Tariff> Search<'s, 'l, T> {
             parent: Some(source.number),
             ride: Some(caught.ride),
             taken: Some(*taken),
-        })
+        };
+        if self.is_cut(finals, &next) {
+            return Ok(());
+        }
+        bags.offer(&next)
     }
 
     /// Offers what the ride leads to from the label. What `moves` holds is lost.
     pub(crate) fn offer_ride(
         &self,
         bags: &mut StopBags<T::Fare, T::Move>,
+        finals: &Front<Final>,
         source: &Source<T::Fare, T::Move>,
         caught: &CaughtRide,
         moves: &mut Vec<T::Move>,
@@ -187,12 +212,12 @@ impl<'s, 'l, T: Tariff> Search<'s, 'l, T> {
         requires source { IsSource (T.terms self.now.tariff) self.now.feed self.now.query source.now }
         requires right { IsRight self.now.feed self.now.query (stand_of_facts (facts_of source.now.label.now)) caught.now }
         requires stops { length bags.old ≡ length self.now.feed.stops }
-        ensures spreads { OnOk result (SpreadsFrom T.Fare.at_most (T.terms self.now.tariff) self.now.feed self.now.query source.now (StepsBy (T.terms self.now.tariff) self.now.feed self.now.query (facts_of source.now.label.now) caught.now.ride) (in_bags bags.old) (in_bags bags.new)) }
+        ensures spreads { OnOk result (SpreadsFrom T.Fare.at_most (T.terms self.now.tariff) self.now.feed self.now.query finals.now source.now (StepsBy (T.terms self.now.tariff) self.now.feed self.now.query (facts_of source.now.label.now) caught.now.ride) (in_bags bags.old) (in_bags bags.new)) }
         ensures stops { OnOk result (length bags.new ≡ length bags.old) }
     {
         self.tariff.moves_into(source.label, &caught.facts, moves)?;
         for k in 0..moves.len() {
-            self.offer_move(bags, source, caught, &moves[k])?;
+            self.offer_move(bags, finals, source, caught, &moves[k])?;
         }
         Ok(())
     }
@@ -203,6 +228,7 @@ impl<'s, 'l, T: Tariff> Search<'s, 'l, T> {
         &self,
         bags: &mut StopBags<T::Fare, T::Move>,
         labels: &[Label<T::Fare, T::Move>],
+        front: &Front<Final>,
         count: u8,
         begin: usize,
         room: &mut Room<T::Move>,
@@ -212,13 +238,14 @@ impl<'s, 'l, T: Tariff> Search<'s, 'l, T> {
         requires last { AreLast count begin labels.now }
         requires numbers { length labels.now < 2 ^ 32 }
         requires stops { length bags.old ≡ length self.now.feed.stops }
-        ensures spreads { OnOk result (Spreads (search_of T.Fare.at_most (T.terms self.now.tariff) self.now.feed self.now.query) IsNever labels.now (count + 1) (StepsFrom (search_of T.Fare.at_most (T.terms self.now.tariff) self.now.feed self.now.query) labels.now count) (in_bags bags.old) (in_bags bags.new)) }
+        ensures spreads { OnOk result (Spreads (search_of T.Fare.at_most (T.terms self.now.tariff) self.now.feed self.now.query) (IsCut (T.terms self.now.tariff) front.now) labels.now (count + 1) (StepsFrom (search_of T.Fare.at_most (T.terms self.now.tariff) self.now.feed self.now.query) labels.now count) (in_bags bags.old) (in_bags bags.new)) }
         ensures stops { OnOk result (length bags.new ≡ length bags.old) }
     {
         let _limit = self.limit();
         let round = Round {
             positions: self.rides.positions(),
             labels,
+            finals: front,
             begin,
             count,
         };
@@ -326,6 +353,7 @@ impl<'s, 'l, T: Tariff> Search<'s, 'l, T> {
         requires stops { length bags.old ≡ length self.now.feed.stops }
         ensures { OnOk result (IsSearched T.Fare.at_most (T.terms self.now.tariff) self.now.feed self.now.query labels.new.items front.new) }
     {
+        let _feed = self.feed();
         let mut room = Room {
             reached: Vec::new(self.alloc),
             rides: KeptRides::none(self.alloc),
@@ -334,7 +362,7 @@ impl<'s, 'l, T: Tariff> Search<'s, 'l, T> {
         let mut begin = 0;
         for count in 0..self.limit() {
             let end = labels.len();
-            self.spread(bags, labels, count, begin, &mut room)?;
+            self.spread(bags, labels, front, count, begin, &mut room)?;
             self.gather(count + 1, bags, labels, front)?;
             begin = end;
         }

@@ -56,5 +56,12 @@ pub trait Tariff {
         requires few { label.now.rides ≤ most_rides }
         ensures { result.0 ≡ (terms self.now).price label.now.fare };
 
+    /// What no journey costs less than that goes on from the label, or ends so, in minor units: what is found for as much cuts the
+    /// label off, unless it arrives later or has more rides.
+    fn least(&self, label: &Label<Self::Fare, Self::Move>) -> Money
+        requires fare { (terms self.now).IsFare label.now.rides label.now.fare }
+        requires few { label.now.rides ≤ most_rides }
+        ensures { result.0 ≡ (terms self.now).least label.now.fare };
+
     ghost lawful: { (s : Self) → IsLawful Self.Fare.at_most (terms s) };
 }

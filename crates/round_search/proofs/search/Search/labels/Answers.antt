@@ -1,4 +1,4 @@
-use Rattle.std.proofs.Common.{◌≡◌, sym, ◌∙◌, ap, subst, ◌+◌, [], ◌++◌, ⊎_elim, All, arith}
+use Rattle.std.proofs.Common.{◌≡◌, sym, ◌∙◌, ap, subst, [], ◌++◌, ⊎_elim, All, arith}
 use Rattle.search_laws.specs.Links.{CoversStarts}
 use Rattle.search_laws.specs.Stores.{AreStored, Spreads}
 use Rattle.search_laws.proofs.StoreLaws.{few_more, fit_more, starts_covered, stored_more, stored_none}

@@ -1,8 +1,9 @@
-use Rattle.std.proofs.Common.{◌≡◌, refl, subst, length, arith}
+use Rattle.std.proofs.Common.{◌≡◌, refl, sym, subst, ◌∙◌, length, arith}
 use Rattle.std.proofs.lemmas.Option.{slice_get-get_or}
 use Rattle.round_search.specs.Scans.{AreReached}
-use Rattle.round_search.proofs.ScanLaws.{label_reached, none_reached, reached_moved, source_of}
+use Rattle.round_search.proofs.ScanLaws.{label_passed, label_reached, none_reached, reached_moved, source_of}
 use Rattle.round_search.proofs.search.Search.mark.Goals as goal
+use Rattle.round_search.proofs.search.Search.mark.Goals.{then-not-is_cut+in_ok-reach, else-not-is_cut}
 
 pub loop-number-init : goal.loop-number-init
 loop-number-init g c =
@@ -13,6 +14,22 @@ loop-number-init g c =
     let laws = g.met.T.Fare.LabelOrder.laws in
     let lawful = g.met.T.Tariff.lawful c.args.self.now.tariff in
     none_reached at_most t laws lawful feed query c.args.round.now c.requires c.clear.new.self.items c.clear.ensures.items
+
+pub is_cut-requires-clause-fare : goal.is_cut-requires-clause-fare
+is_cut-requires-clause-fare g c =
+    let labels = c.args.round.now.labels.now in
+    let number = c.loop-number.number in
+    let at = slice_get-get_or labels number c.index-round-number.result c.loop-number-test.true in
+    (c.requires.origins number _ at c.loop-number.auto.number).fit.fare
+
+pub is_cut-requires-clause-few : goal.is_cut-requires-clause-few
+is_cut-requires-clause-few g c =
+    let labels = c.args.round.now.labels.now in
+    let number = c.loop-number.number in
+    let at = slice_get-get_or labels number c.index-round-number.result c.loop-number-test.true in
+    let few = (c.requires.origins number _ at c.loop-number.auto.number).few in
+    let rides = c.requires.usual.rides in
+    omega (arith, few, rides)
 
 pub reach-requires-clause-source : goal.reach-requires-clause-source
 reach-requires-clause-source g c =
@@ -35,8 +52,16 @@ loop-number-preserved g c =
     let labels = c.args.round.now.labels.now in
     let number = c.loop-number.number in
     let at = slice_get-get_or labels number c.index-round-number.result c.loop-number-test.true in
-    label_reached at_most t laws lawful feed query c.args.round.now c.requires _ number _ _ refl at c.loop-number.auto.number
-    c.loop-number.invariant c.in_ok-reach.ensures
+    let round = c.args.round.now in
+    let was = c.loop-number.invariant in
+    elim c.if-not-is_cut.branch [
+      | then-not-is_cut+in_ok-reach w ↦
+          rw w.reached-is (label_reached at_most t laws lawful feed query round c.requires _ number _ _ refl at c.loop-number.auto.number was
+          w.in_ok-reach.ensures)
+      | else-not-is_cut w ↦
+          rw w.reached-is (label_passed at_most t laws lawful feed query round c.requires number _ _ at
+          (sym c.is_cut.ensures ∙ w.if-not-is_cut.false) was)
+    ]
 
 pub returns : goal.returns
 returns g c =

@@ -7,10 +7,11 @@ use Rattle.plan_rides.proofs.CutoffLaws.{any_last}
 use Rattle.search_laws.specs.Stores.{Spreads}
 use Rattle.search_laws.proofs.SpreadLaws.{spreads_same}
 use Rattle.round_search.specs.declared.label.Label.{Label}
+use Rattle.round_search.specs.Cuts.{IsCut}
 use Rattle.round_search.specs.Bags.{in_bags}
 use Rattle.round_search.specs.Labels.{facts_of}
 use Rattle.round_search.specs.Scans.{StepsAt}
-use Rattle.round_search.specs.Searches.{IsNever, search_of}
+use Rattle.round_search.specs.Searches.{search_of}
 use Rattle.round_search.specs.Steps.{stand_of_facts}
 use Rattle.round_search.proofs.ScanLaws.{source_of}
 use Rattle.round_search.proofs.search.Search.offer_from.Goals as goal
@@ -55,8 +56,8 @@ returns-clause-spreads g c =
     let at = slice_get-get_or labels reached.number c.index-round-reached.result marked.within in
     let Part = StepsAt t feed query round.positions.now (facts_of x) reached in
     on_ok_weaker c.offer_rides.result
-    (λ spreads. spreads_same search IsNever labels (round.count + 1) _ _ _ _
-    (subst (λ n. Spreads search IsNever labels (n + 1) Part (in_bags c.args.bags.now) (in_bags c.offer_rides.new.bags))
+    (λ spreads. spreads_same search (IsCut t round.finals.now) labels (round.count + 1) _ _ _ _
+    (subst (λ n. Spreads search (IsCut t round.finals.now) labels (n + 1) Part (in_bags c.args.bags.now) (in_bags c.offer_rides.new.bags))
     (c.requires.round.last.last reached.number x at marked.since) spreads)
     (λ b step. subst (λ (y : Label _ _). StepsAt t feed query round.positions.now (facts_of y) reached b)
     (same_Some step.0 x (sym step.1 ∙ at)) step.2))

@@ -4,8 +4,9 @@ use Rattle.std.proofs.lemmas.List.Elements.{Contains-get_or}
 use Rattle.std.proofs.lemmas.Option.{slice_get-get_or}
 use Rattle.plan_rides.specs.declared.caught.CaughtRide.{CaughtRide}
 use Rattle.search_laws.proofs.SpreadLaws.{spreads_more, spreads_none, spreads_same}
+use Rattle.round_search.specs.Cuts.{IsCut}
 use Rattle.round_search.specs.Bags.{in_bags}
-use Rattle.round_search.specs.Searches.{IsNever, search_of}
+use Rattle.round_search.specs.Searches.{search_of}
 use Rattle.round_search.proofs.RideLaws.{rides_more}
 use Rattle.round_search.proofs.ScanLaws.{by_passed, right_from, steps_from}
 use Rattle.round_search.proofs.search.Search.offer_rides.Goals as goal
@@ -25,7 +26,7 @@ loop-k-init g c =
     let feed = c.args.self.now.feed in
     let query = c.args.self.now.query in
     record {
-      spreads = spreads_none (search_of at_most t feed query) IsNever c.args.source.now.labels.now _ _ (in_bags c.args.bags.now)
+      spreads = spreads_none (search_of at_most t feed query) (IsCut t c.args.round.now.finals.now) c.args.source.now.labels.now _ _ (in_bags c.args.bags.now)
           (λ b steps. let below = steps.1 in absurd (omega (arith, below)));
       stops = refl;
     }
@@ -68,12 +69,12 @@ loop-k-preserved g c =
     let at = slice_get-get_or rides k none c.loop-k-test.true in
     elim c.if-departs_since.branch [
       | then-departs_since+in_ok-offer_ride w ↦ record {
-        spreads = rw w.bags-is (spreads_more search IsNever source.labels.now _ _ _ _ _ _ _ was.spreads w.in_ok-offer_ride.ensures.spreads
+        spreads = rw w.bags-is (spreads_more search (IsCut t c.args.round.now.finals.now) source.labels.now _ _ _ _ _ _ _ was.spreads w.in_ok-offer_ride.ensures.spreads
             (λ b. rides_more at_most t laws lawful feed query source c.requires.source rides k caught b at));
         stops = rw w.bags-is (w.in_ok-offer_ride.ensures.stops ∙ was.stops);
       }
       | else-departs_since w ↦ record {
-        spreads = rw w.bags-is (spreads_same search IsNever source.labels.now _ _ _ _ _ was.spreads
+        spreads = rw w.bags-is (spreads_same search (IsCut t c.args.round.now.finals.now) source.labels.now _ _ _ _ _ was.spreads
             (λ b. by_passed at_most t laws lawful feed query round c.requires.round source c.requires.source reached rides c.requires.from
             c.requires.holds k caught b at (sym c.departs_since.ensures ∙ w.if-departs_since.false)));
         stops = rw w.bags-is was.stops;
@@ -92,7 +93,7 @@ returns-clause-spreads g c =
     let source = c.args.source.now in
     let reached = c.args.reached.now in
     let rides = c.args.rides.now in
-    spreads_same (search_of at_most t feed query) IsNever source.labels.now _ _ _ _ _ c.loop-k.invariant.spreads
+    spreads_same (search_of at_most t feed query) (IsCut t c.args.round.now.finals.now) source.labels.now _ _ _ _ _ c.loop-k.invariant.spreads
     (λ b. steps_from at_most t laws lawful feed query round c.requires.round source c.requires.source reached rides c.requires.from
     c.requires.holds c.loop-k.k b (omega (arith, c.loop-k-test.false)))
 

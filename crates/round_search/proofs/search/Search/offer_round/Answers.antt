@@ -1,13 +1,14 @@
-use Rattle.std.proofs.Common.{refl, sym, subst, ◌∙◌, ◌+◌, ◌<◌, [], length, arith, Vec, Global}
+use Rattle.std.proofs.Common.{inl, inr, ⊎_elim, refl, sym, subst, ◌∙◌, ◌<◌, [], length, arith, Vec, Global}
 use Rattle.std.specs.Vec.{vec_len}
 use Rattle.plain_laws.proofs.Laws.{Contains-slice_get}
 use Rattle.plan_rides.specs.Cutoffs.{cutoff_by}
 use Rattle.plan_rides.specs.InTime.{deadline}
 use Rattle.plan_rides.specs.Reached.{AreKept, Kept}
 use Rattle.plan_rides.specs.declared.positions.Reached.{Reached}
-use Rattle.search_laws.proofs.SpreadLaws.{spreads_more, spreads_none, spreads_same}
+use Rattle.search_laws.proofs.SpreadLaws.{spreads_but, spreads_more, spreads_none}
+use Rattle.round_search.specs.Cuts.{IsCut}
 use Rattle.round_search.specs.Bags.{in_bags}
-use Rattle.round_search.specs.Searches.{IsNever, search_of}
+use Rattle.round_search.specs.Searches.{search_of}
 use Rattle.round_search.proofs.ScanLaws.{position_at, steps_all, steps_more}
 use Rattle.round_search.proofs.SourceLaws.{within_all}
 use Rattle.round_search.proofs.search.Search.offer_round.Goals as goal
@@ -22,7 +23,7 @@ loop-k-init g c =
     record {
       same = refl;
       kept = subst (λ (kept : Kept). AreKept round.positions.now (cutoff_by [] (deadline query)) kept) (sym c.clear.ensures) tt;
-      spreads = spreads_none (search_of at_most t feed query) IsNever round.labels.now _ _ (in_bags c.args.bags.now)
+      spreads = spreads_none (search_of at_most t feed query) (IsCut t round.finals.now) round.labels.now _ _ (in_bags c.args.bags.now)
           (λ b steps. let below = steps.1 in absurd (omega (arith, below)));
       stops = refl;
     }
@@ -61,7 +62,7 @@ loop-k-preserved g c =
     record {
       same = was.same;
       kept = c.in_ok-offer_from.ensures.kept;
-      spreads = spreads_more (search_of at_most t feed query) IsNever round.labels.now _ _ _ _ _ _ _ was.spreads c.in_ok-offer_from.ensures.spreads
+      spreads = spreads_more (search_of at_most t feed query) (IsCut t round.finals.now) round.labels.now _ _ _ _ _ _ _ was.spreads c.in_ok-offer_from.ensures.spreads
           (λ b. steps_more at_most t laws lawful feed query round c.requires.round list.items c.loop-k.k x b at);
       stops = c.in_ok-offer_from.ensures.stops ∙ was.stops;
     }
@@ -77,9 +78,9 @@ returns-clause-spreads g c =
     let round = c.args.round.now in
     let labels = round.labels.now in
     let list = c.mark.new.reached in
-    spreads_same (search_of at_most t feed query) IsNever labels _ _ _ _ _ c.loop-k.invariant.spreads
-    (λ b from. steps_all at_most t laws lawful feed query round c.requires.round list.items c.loop-k.k b
-    (omega (arith, c.loop-k-test.false, c.len-k-end.ensures, list.ok.0))
+    spreads_but (search_of at_most t feed query) (IsCut t round.finals.now) labels _ _ _ _ _ c.loop-k.invariant.spreads
+    (λ b from. ⊎_elim (λ among. inl (steps_all at_most t laws lawful feed query round c.requires.round list.items c.loop-k.k b
+    (omega (arith, c.loop-k-test.false, c.len-k-end.ensures, list.ok.0)) among)) inr
     (c.in_ok-mark.ensures.all b (within_all at_most t feed query labels round.begin round.count (length labels) b c.requires.round.last (omega arith) from)))
 
 pub returns-clause-stops : goal.returns-clause-stops

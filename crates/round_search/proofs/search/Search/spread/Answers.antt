@@ -1,4 +1,5 @@
-use Rattle.std.proofs.Common.{ap, ◌∙◌}
+use Rattle.std.proofs.Common.{ap, subst, ◌∙◌}
+use Rattle.feed_rows.specs.SoundFeed.{IsSoundFeed}
 use Rattle.round_search.specs.Bags.{in_bags}
 use Rattle.round_search.specs.Searches.{Asked}
 use Rattle.round_search.proofs.SourceLaws.{origin_is}
@@ -15,6 +16,7 @@ offer_round-requires-clause-round g c =
     record {
       of = c.positions.ensures.feed ∙ ap (λ (a : Asked _). a.feed) c.self.view_is;
       for = c.positions.ensures.query ∙ ap (λ (a : Asked _). a.query) c.self.view_is;
+      sound = subst (λ (a : Asked _). IsSoundFeed a.feed) c.self.view_is c.positions.ensures.sound;
       usual = c.limit-limit.ensures.usual;
       numbers = c.requires.numbers;
       last = last;

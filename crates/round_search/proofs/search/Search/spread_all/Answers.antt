@@ -1,10 +1,13 @@
-use Rattle.std.proofs.Common.{◌≡◌, refl, sym, ◌∙◌, subst, ◌+◌, ◌<◌, ◌^◌, ◌++◌, length, arith}
+use Rattle.std.proofs.Common.{◌≡◌, [], refl, sym, ◌∙◌, subst, ◌+◌, ◌<◌, ◌^◌, ◌++◌, length, arith}
 use Rattle.search_laws.specs.Links.{CoversStarts}
 use Rattle.search_laws.specs.Stores.{AreClosedTo, AreStored, Spreads, StepsFrom}
-use Rattle.search_laws.proofs.StoreLaws.{closed_more, few_more, fit_more, starts_more, stored_more}
+use Rattle.search_laws.proofs.StoreLaws.{closed_more, closed_weaker, few_more, fit_more, starts_more, stored_more}
 use Rattle.round_search.specs.Bags.{gathered, in_bags}
-use Rattle.round_search.specs.Searches.{AreLast, IsGathered, IsNever, search_of, told}
+use Rattle.round_search.specs.Cuts.{IsCut}
+use Rattle.round_search.specs.Finals.{AddsEnds, EndsBelow}
+use Rattle.round_search.specs.Searches.{AreLast, IsGathered, search_of, told}
 use Rattle.round_search.specs.Steps.{ways}
+use Rattle.round_search.proofs.CutLaws.{cut_still}
 use Rattle.round_search.proofs.LawfulLaws.{cover_test}
 use Rattle.round_search.proofs.RoundLaws.{ending_of, gathered_rides, searched_of}
 use Rattle.round_search.proofs.SourceLaws.{last_more}
@@ -46,14 +49,15 @@ gather-requires-clause-ending g c =
     let was = c.loop-count.invariant.are in
     let count = c.loop-count.count in
     let labels = c.loop-count.labels.items in
+    let front = c.loop-count.front in
     let new = in_bags c.spread.new.bags in
     let spreads =
-    subst (λ ls. Spreads s IsNever ls (count + 1) (StepsFrom s ls count) (in_bags c.loop-count.bags) new) c.deref.ensures.value
+    subst (λ ls. Spreads s (IsCut t front) ls (count + 1) (StepsFrom s ls count) (in_bags c.loop-count.bags) new) c.deref.ensures.value
     c.in_ok-spread.ensures.spreads in
     ending_of t feed query (labels ++ gathered (count + 1) new) c.limit-count-end.ensures.usual
-    (few_more s test IsNever (count + 1) labels _ (in_bags c.loop-count.bags) new was.stored spreads query.rides
+    (few_more s test (IsCut t front) (count + 1) labels _ (in_bags c.loop-count.bags) new was.stored spreads query.rides
     (omega (arith, c.loop-count-test.true, c.limit-count-end.ensures.is)))
-    (fit_more s test IsNever (count + 1) labels _ (in_bags c.loop-count.bags) new was.stored spreads)
+    (fit_more s test (IsCut t front) (count + 1) labels _ (in_bags c.loop-count.bags) new was.stored spreads)
 
 pub gather-requires-clause-ended : goal.gather-requires-clause-ended
 gather-requires-clause-ended g c = c.loop-count.invariant.are.ended
@@ -71,9 +75,10 @@ loop-count-preserved g c =
     let was = c.loop-count.invariant.are in
     let count = c.loop-count.count in
     let labels = c.loop-count.labels.items in
+    let front = c.loop-count.front in
     let new = in_bags c.spread.new.bags in
     let spreads =
-    subst (λ ls. Spreads s IsNever ls (count + 1) (StepsFrom s ls count) (in_bags c.loop-count.bags) new) c.deref.ensures.value
+    subst (λ ls. Spreads s (IsCut t front) ls (count + 1) (StepsFrom s ls count) (in_bags c.loop-count.bags) new) c.deref.ensures.value
     c.in_ok-spread.ensures.spreads in
     let old = in_bags c.loop-count.bags in
     let all = c.in_ok-gather.ensures in
@@ -81,10 +86,13 @@ loop-count-preserved g c =
     record {
       are = record {
         stored = subst (λ ls. AreStored s (count + 1 + 1) ls new) (sym all.value)
-            (stored_more s test IsNever (count + 1) labels _ old new was.stored spreads all.apart);
+            (stored_more s test (IsCut t front) (count + 1) labels _ old new was.stored spreads all.apart);
         apart = all.apart;
-        closed = subst (AreClosedTo s IsNever (count + 1)) (sym all.value)
-            (closed_more s test IsNever (count + 1) labels _ old new was.stored spreads count refl was.closed (λ b h. h));
+        closed = closed_weaker s (IsCut t front) (IsCut t c.gather.new.front) (count + 1) c.gather.new.labels.items
+            (cut_still at_most t laws lawful feed query labels (gathered (count + 1) new) front c.gather.new.front was.ended
+            (subst (λ ls. AddsEnds t feed query ls (EndsBelow t feed query ls (length ls)) [] c.gather.new.front) all.value all.ended))
+            (subst (AreClosedTo s (IsCut t front) (count + 1)) (sym all.value)
+            (closed_more s test (IsCut t front) (count + 1) labels _ old new was.stored spreads count refl was.closed (λ b h. h)));
         starts = subst (CoversStarts (ways at_most t feed query) (told t feed query)) (sym all.value) (starts_more s labels _ was.starts);
         ended = all.ended;
         numbers = all.numbers;
@@ -105,4 +113,4 @@ returns g c =
     let lawful = g.met.T.Tariff.lawful c.args.self.now.tariff in
     searched_of at_most t laws lawful feed query c.loop-count.begin c.loop-count.labels.items (in_bags c.loop-count.bags) c.loop-count.front
     (subst (λ n. IsGathered at_most t feed query n c.loop-count.begin c.loop-count.labels.items (in_bags c.loop-count.bags) c.loop-count.front)
-    (omega (arith, c.loop-count-test.false, c.loop-count.auto.count-end, c.limit-count-end.ensures.is)) c.loop-count.invariant.are)
+    (omega (arith, c.loop-count-test.false, c.loop-count.auto.count-end, c.limit-count-end.ensures.is)) c.loop-count.invariant.are) c.feed-feed.ensures.sound

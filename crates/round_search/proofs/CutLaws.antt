@@ -1,0 +1,121 @@
+-- What cuts facts off cuts off all that they lead to.
+use Rattle.std.proofs.Common.{◌≡◌, sym, ◌∙◌, subst, ℕ, zero, suc, Bool, true, List, [], ◌++◌, length, arith, ℤ, pos, ◌+ℤ◌, ◌≤ℤ◌}
+use Rattle.std.specs.Prelude.{Option, Some, None, option_map, int_le}
+use Rattle.std.proofs.lemmas.Int.{ints}
+use Rattle.std.proofs.lemmas.List.Elements.{All-contains, All-nil}
+use Rattle.std.proofs.lemmas.Option.{same_Some, none-some, slice_get_within}
+use Rattle.transit_base.specs.declared.numbers.StopId.{StopId}
+use Rattle.feed_rows.specs.declared.fares.Triple.{Triple}
+use Rattle.feed_rows.specs.declared.journeys.Query.{Query}
+use Rattle.feed_rows.specs.declared.journeys.Ride.{Ride}
+use Rattle.feed_rows.specs.declared.journeys.RideFacts.{RideFacts}
+use Rattle.feed_rows.specs.FeedRows.{FeedRows}
+use Rattle.feed_rows.specs.JourneyStands.{way_to, way_out, end_arrival}
+use Rattle.transit_base.specs.Limits.{most_time}
+use Rattle.feed_rows.specs.ParetoTriples.{at_most as is_no_worse}
+use Rattle.feed_rows.specs.SoundFeed.{IsSoundFeed}
+use Rattle.feed_laws.proofs.ParetoLaws.{at_most-trans}
+use Rattle.feed_laws.proofs.RideLaws.{ride_facts_timed}
+use Rattle.feed_laws.proofs.SoundTrips.{sound_trip}
+use Rattle.label_order.specs.Labels.{OrderLaws}
+use Rattle.plain_laws.proofs.Laws.{filled_and-true, int_le-true, list_any_tells, slice_get-append_left}
+use Rattle.search_laws.specs.Cuts.{AreCuts}
+use Rattle.search_laws.specs.Ways.{LeadsBy}
+use Rattle.round_search.specs.declared.finals.Final.{Final}
+use Rattle.round_search.specs.declared.label.Label.{Label}
+use Rattle.round_search.specs.Cuts.{Cuts, IsCut, least_end}
+use Rattle.round_search.specs.Finals.{AddsEnds, EndsBelow, IsFinal}
+use Rattle.round_search.specs.Steps.{IsCaughtFrom, IsEnd, IsStep, facts_after, stand_of_facts, ways}
+use Rattle.round_search.specs.Terms.{Covers, Facts, IsLawful, Terms}
+use Rattle.round_search.proofs.FinalLaws.{bettered_up}
+use Rattle.round_search.proofs.LawfulLaws.{parts_below}
+
+module _ {F M : Type 0} (at_most : F → F → Bool) (t : Terms F M) (laws : OrderLaws at_most) (lawful : IsLawful at_most t)
+    (feed : FeedRows) (query : Query) where
+  -- ---- what covers
+
+  least_below : (a b : Facts F) → Covers at_most a b → is_no_worse (least_end t a) (least_end t b) ≡ true
+  least_below a b covers =
+      parts_below (least_end t a) (least_end t b) covers.arrival covers.rides (lawful.least_below a.fare b.fare covers.fare)
+
+  -- what is covered by what is cut off is cut off
+  pub cut_below : (finals : List Final) (a b : Facts F) → Covers at_most a b → IsCut t finals a → IsCut t finals b
+  cut_below finals a b covers cut = bettered_up finals (least_end t a) (least_end t b) cut (least_below a b covers)
+
+  -- ---- finals
+
+  -- what was cut off by ends of labels is so by ends of more labels
+  pub cut_still : (labels more : List (Label F M)) (old new : List Final) →
+      AddsEnds t feed query labels (EndsBelow t feed query labels (length labels)) [] old →
+      AddsEnds t feed query (labels ++ more) (EndsBelow t feed query (labels ++ more) (length (labels ++ more))) [] new →
+      (b : Facts F) → IsCut t old b → IsCut t new b
+  cut_still labels more old new before after b cut =
+      let some = list_any_tells (λ (final : Final). is_no_worse final.triple (least_end t b)) old cut in
+      let of = All-contains (IsFinal t feed query labels) old some.0 (before.right (All-nil (IsFinal t feed query labels))) some.1 in
+      let there = slice_get-append_left labels more some.0.label (slice_get_within labels some.0.label of.label of.is) in
+      bettered_up new some.0.triple (least_end t b)
+      (after.all some.0.triple (
+        some.0.label,
+        slice_get_within (labels ++ more) some.0.label of.label (there ∙ of.is),
+        of.label,
+        there ∙ of.is,
+        (some.0.last, of.end),
+      )) some.2
+
+  -- ---- what goes on
+
+  module _ (sound : IsSoundFeed feed) where
+    -- a ride that is caught arrives no earlier than one stood there
+    later_ride : (a : Facts F) (ride : Ride) (facts : RideFacts) → IsCaughtFrom feed query (stand_of_facts a) a.rides ride facts →
+        a.arrival ≤ℤ facts.arrival.0
+    later_ride a ride facts c =
+        let timed = ride_facts_timed feed ride facts most_time (sound_trip feed ride.trip sound) c.is in
+        let way =
+        filled_and-true (way_to feed query (stand_of_facts a) facts.from) (λ (w : ℕ). int_le (a.arrival +ℤ pos w) facts.departure.0)
+        c.caught in
+        onward a.arrival facts.departure.0 facts.arrival.0 way.value (int_le-true _ _ way.passes) timed.forward
+      where
+        onward : (at departs arrives : ℤ) (way : ℕ) → (at +ℤ pos way) ≤ℤ departs → departs ≤ℤ arrives → at ≤ℤ arrives
+        onward at departs arrives way p q = omega (arith, ints, p, q)
+
+    least_after : (a b : Facts F) (ride : Ride) (move : M) → IsStep t feed query a ride move b →
+        is_no_worse (least_end t a) (least_end t b) ≡ true
+    least_after a b ride move step =
+        subst (λ (f : Facts F). is_no_worse (least_end t a) (least_end t f) ≡ true) (sym step.next)
+        (parts_below (least_end t a) (least_end t (facts_after t a step.facts move)) (later_ride a ride step.facts step.rides) (omega arith)
+        (lawful.least_stays a step.facts move step.fare step.pays))
+
+    -- what is cut off leads only to what is
+    pub cut_after : (finals : List Final) (a b : Facts F) (ride : Ride) (move : M) → IsStep t feed query a ride move b →
+        IsCut t finals a → IsCut t finals b
+    cut_after finals a b ride move step cut = bettered_up finals (least_end t a) (least_end t b) cut (least_after a b ride move step)
+
+    least_ends : (a : Facts F) (last : StopId) (triple : Triple) → IsEnd t feed query a last triple → is_no_worse (least_end t a) triple ≡ true
+    unfolding end_arrival
+    least_ends a last triple e =
+        parts_below (least_end t a) triple (by (way_out feed query (stand_of_facts a) last) e.arrives)
+        (let same = e.rides in omega (arith, same)) (dearer (t.least a.fare) (t.price a.fare) triple.price.0 (lawful.least_ends a.fare) e.price)
+      where
+        later : (x y : ℤ) (s : ℕ) → x +ℤ pos s ≡ y → x ≤ℤ y
+        later x y s e = omega (arith, ints, e)
+
+        dearer : (p p' q : ℤ) → p ≤ℤ p' → q ≡ p' → p ≤ℤ q
+        dearer p p' q le e = omega (arith, ints, le, e)
+
+        by : (way : Option ℕ) → option_map (λ s. a.arrival +ℤ pos s) way ≡ Some triple.arrival.0 → a.arrival ≤ℤ triple.arrival.0
+        by None arrives = absurd (none-some _ arrives)
+        by (Some s) arrives = later a.arrival triple.arrival.0 s (same_Some _ _ arrives)
+
+    least_leads : (n : ℕ) (a : Facts F) (other : Triple) → LeadsBy (ways at_most t feed query) n a other →
+        is_no_worse (least_end t a) other ≡ true
+    least_leads zero a other leads = least_ends a leads.0 other leads.1
+    least_leads (suc n) a other leads =
+        at_most-trans (least_end t a) (least_end t leads.2) other (least_after a leads.2 leads.0 leads.1 leads.3)
+        (least_leads n leads.2 other leads.4)
+
+    pub cuts : AreCuts (ways at_most t feed query) (Cuts t)
+    cuts = record {
+      after = λ triple a b ride move step cut. at_most-trans triple (least_end t a) (least_end t b) cut (least_after a b ride move step);
+      below = λ triple a b covers cut. at_most-trans triple (least_end t a) (least_end t b) cut (least_below a b covers);
+      leads = λ triple n a other cut leads. at_most-trans triple (least_end t a) other cut (least_leads n a other leads);
+    }
