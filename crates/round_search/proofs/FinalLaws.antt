@@ -1,8 +1,7 @@
 -- What offers of ends to the finals gain, one after another.
 use Rattle.std.proofs.Common.{◌≡◌, sym, ◌∙◌, ap, subst, ℕ, ◌+◌, ◌≤◌, ◌⊎◌, inl, inr, ⊎_elim, Bool, true, List, [], ◌∷◌, ◌++◌, length, arith, ℤ, ◌≤ℤ◌}
-use Rattle.std.specs.Prelude.{All, Contains, Option, Some, None, Result, Ok, Err, OnOk, IsTrue, option_map, slice_get, int_le, nat_le}
-use Rattle.std.proofs.lemmas.Bool.{cases_lt, and_from}
-use Rattle.std.proofs.lemmas.Bool.Decides.{nat_tests}
+use Rattle.std.specs.Prelude.{All, Contains, Option, Some, None, Result, Ok, Err, OnOk, IsTrue, option_map, slice_get}
+use Rattle.std.proofs.lemmas.Bool.{cases_lt}
 use Rattle.std.proofs.lemmas.Int.{ints}
 use Rattle.std.proofs.lemmas.List.Elements.{All-contains, All-nil, All-weaker}
 use Rattle.std.proofs.lemmas.Option.{same_Some, none-some, slice_get_within}
@@ -30,6 +29,7 @@ use Rattle.round_search.specs.Labels.{facts_of}
 use Rattle.round_search.specs.Searches.{AreEnding, IsEnding, IsFit}
 use Rattle.round_search.specs.Steps.{IsEnd, stand_of_facts}
 use Rattle.round_search.specs.Terms.{Terms}
+use Rattle.round_search.proofs.LawfulLaws.{parts_below}
 
 -- finals by their triples
 abbrev pub as_good : Final → Final → Bool
@@ -45,14 +45,7 @@ bettered_up (x ∷ xs) s t h le =
 
 -- triples with the same parts are at most each other
 same_parts_at_most : (a b : Triple) → a.arrival.0 ≡ b.arrival.0 → a.rides ≡ b.rides → a.price.0 ≡ b.price.0 → is_no_worse a b ≡ true
-same_parts_at_most a b p q r =
-    and_from _ _ (and_from _ _ (le a.arrival.0 b.arrival.0 p) (few a.rides b.rides q)) (le a.price.0 b.price.0 r)
-  where
-    le : (x y : ℤ) → x ≡ y → int_le x y ≡ true
-    le x y e = grind (arith, ints)
-
-    few : (m n : ℕ) → m ≡ n → nat_le m n ≡ true
-    few m n e = grind (arith, nat_tests)
+same_parts_at_most a b p q r = parts_below a b (omega (arith, ints, p)) (omega (arith, q)) (omega (arith, ints, r))
 
 module _ {F M : Type 0} (t : Terms F M) (feed : FeedRows) (query : Query) where
   module _ (labels : List (Label F M)) where

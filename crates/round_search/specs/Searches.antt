@@ -59,7 +59,7 @@ told t feed query = record {
   GoesOn = GoesOn;
 }
 
--- none of its labels needs to be without ends that cut it off
+-- the search by such terms; of ends that cut its labels off nothing is asked, since labels may lack what is cut off, and needn't
 abbrev pub search_of : {F M : Type 0} → (F → F → Bool) → Terms F M → FeedRows → Query →
     Search (Label F M) (Facts F) Ride M StopId Triple
 search_of at_most t feed query = record {

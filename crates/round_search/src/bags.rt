@@ -126,6 +126,8 @@ impl<F: LabelOrder + Copy, M: Copy> StopBags<F, M> {
     ///
     /// # Errors
     /// Want of memory.
+    // Inlined, so that a label that is covered is never written.
+    #[inline(always)]
     pub fn offer(&mut self, label: &Label<F, M>) -> Result<(), AllocError>
         requires { label.now.stop.0 < length self.old }
         ensures takes { OnOk result (Takes (covers F.at_most) (in_bags self.old) label.now (in_bags self.new)) }
