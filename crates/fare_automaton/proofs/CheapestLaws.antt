@@ -22,6 +22,8 @@ use Rattle.plain_laws.specs.Plain.{filled_and, joined_below}
 use Rattle.plain_laws.proofs.LesserLaws.{lesser_more}
 use Rattle.plain_laws.proofs.Laws.{All-from, Contains-map, filled_and-true, map-tells}
 use Rattle.fare_laws.specs.BareMoves.{bare}
+use Rattle.fare_laws.specs.Amounts.{spent_by}
+use Rattle.fare_laws.proofs.AmountLaws.{no_dearer-trans}
 use Rattle.fare_automaton.specs.Fewest.{AddsFewer, AreAlike, AreEnoughMoves, AreFewerMoves, HasLesserMove, IsLesserMove}
 use Rattle.fare_automaton.specs.declared.cheapest.PaidPlace.{PaidPlace}
 use Rattle.fare_automaton.specs.Cheapest.{cheaper, paid_by, paid_place}
@@ -114,15 +116,10 @@ adds_none moves before none = record {
 
 -- what costs no more than one that costs no more
 lesser_through : (a b c : Move) → IsLesserMove a b → IsLesserMove b c → IsLesserMove a c
-lesser_through a b c ab bc =
-    let p = ab.paid in
-    let q = bc.paid in
-    let r = ab.price in
-    let s = bc.price in
-    record { state = ab.state ∙ bc.state; paid = through a.paid.0 b.paid.0 c.paid.0 p q; price = through _ _ _ r s }
-  where
-    through : (x y z : ℤ) → x ≤ℤ y → y ≤ℤ z → x ≤ℤ z
-    through x y z p q = omega (arith, ints, p, q)
+lesser_through a b c ab bc = record {
+  state = ab.state ∙ bc.state;
+  cost = no_dearer-trans (spent_by a) (spent_by b) (spent_by c) ab.cost bc.cost;
+}
 
 -- fewer of enough moves are enough
 pub enough_fewer : (feed : FeedRows) (buyer : Buyer) (state : Option FareState) (held : ℤ) (leg : LegFacts) (moves fewer : List Move) →
@@ -186,8 +183,9 @@ module _ (feed : FeedRows) (state : FareState) (held : ℤ) (next : FareLeg) (pi
   -- of two places that are alike the one by which less is paid makes a move that costs no more
   lesser_place : (a b : Option ChangeChoice) → is_some a ≡ is_some b → is_none (place_kind feed a) ≡ is_none (place_kind feed b) →
       paid_by feed held (amount_of feed pick.product) a ≤ℤ paid_by feed held (amount_of feed pick.product) b → IsLesserMove (by_place a) (by_place b)
-  lesser_place None None filled kind le = record { state = refl; paid = le; price = sum_le _ _ _ _ le (held_same None None kind) }
-  lesser_place (Some x) (Some y) filled kind le = record { state = refl; paid = le; price = sum_le _ _ _ _ le (held_same (Some x) (Some y) kind) }
+  lesser_place None None filled kind le = record { state = refl; cost = record { paid = le; price = sum_le _ _ _ _ le (held_same None None kind) } }
+  lesser_place (Some x) (Some y) filled kind le =
+      record { state = refl; cost = record { paid = le; price = sum_le _ _ _ _ le (held_same (Some x) (Some y) kind) } }
   lesser_place None (Some y) filled kind le = absurd (let no : false ≡ true = filled in cc)
   lesser_place (Some x) None filled kind le = absurd (let no : false ≡ true = sym filled in cc)
 

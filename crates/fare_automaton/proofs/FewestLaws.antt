@@ -21,6 +21,7 @@ use Rattle.plain_laws.specs.Plain.{joined_below}
 use Rattle.fare_laws.specs.BareMoves.{bare}
 use Rattle.fare_laws.proofs.MoveLaws.{first_tells, first_when, next_tells, next_when}
 use Rattle.fare_automaton.specs.Changes.{times_of}
+use Rattle.fare_laws.specs.Amounts.{IsNoDearer}
 use Rattle.fare_automaton.specs.Fewest.{AreEnough, AreEnoughMoves, AreFewer, HasLesser, IsLesserMove, IsLesserPick, group_of}
 use Rattle.fare_automaton.specs.Options.{ArePicks, first_made, made_at, next_made}
 use Rattle.fare_automaton.proofs.MadeLaws.{AreOf, all_true, first_of, full, full_again, made_in, next_is_bare, next_of, place_of_bare, right_made, whole_bare}
@@ -129,7 +130,7 @@ module _ (feed : FeedRows) (buyer : Buyer) (leg : LegFacts) where
         sym (first_when feed buyer leg other m.first true chosen (rw paid refl)),
         refl,
         subst (IsLesserMove other) m.follows
-            (record { state = refl; paid = omega (arith, ints); price = omega (arith, ints, le) }),
+            (record { state = refl; cost = record { paid = omega (arith, ints); price = omega (arith, ints, le) } }),
       )
 
   pub starts_enough : (picks : List LegChoice) (moves : List Move) → AreEnough feed buyer leg picks →
@@ -144,27 +145,24 @@ module _ (feed : FeedRows) (buyer : Buyer) (leg : LegFacts) where
 
 -- what is paid and what is held grow with the amount
 costs : (kind : Option ℕ) (held charge a b : ℤ) → a ≤ℤ b →
-    (next_paid (pos 0) held kind a charge ≤ℤ next_paid (pos 0) held kind b charge)
-    × ((next_paid (pos 0) held kind a charge +ℤ next_held kind a) ≤ℤ (next_paid (pos 0) held kind b charge +ℤ next_held kind b))
+    IsNoDearer (record { paid = next_paid (pos 0) held kind a charge; held = next_held kind a })
+    (record { paid = next_paid (pos 0) held kind b charge; held = next_held kind b })
 costs kind held charge a b le = by (is_none kind) (frees_next kind) (pos 0 +ℤ (if frees_first kind then pos 0 else held) +ℤ charge)
   where
     by : (none frees : Bool) (p : ℤ) →
-        ((p +ℤ (if none || frees then pos 0 else a)) ≤ℤ (p +ℤ (if none || frees then pos 0 else b)))
-        × ((p +ℤ (if none || frees then pos 0 else a) +ℤ (if none then a else pos 0)) ≤ℤ (p +ℤ (if none || frees then pos 0 else b) +ℤ (if none then b else pos 0)))
-    by true frees p = (omega (arith, ints), omega (arith, ints, le))
-    by false true p = (omega (arith, ints), omega (arith, ints))
-    by false false p = (omega (arith, ints, le), omega (arith, ints, le))
+        IsNoDearer (record { paid = p +ℤ (if none || frees then pos 0 else a); held = (if none then a else pos 0) })
+        (record { paid = p +ℤ (if none || frees then pos 0 else b); held = (if none then b else pos 0) })
+    by true frees p = record { paid = omega (arith, ints); price = omega (arith, ints, le) }
+    by false true p = record { paid = omega (arith, ints); price = omega (arith, ints) }
+    by false false p = record { paid = omega (arith, ints, le); price = omega (arith, ints, le) }
 
 module _ (feed : FeedRows) (buyer : Buyer) (state : FareState) (held : ℤ) (leg : LegFacts) where
   -- the same place with an option that costs no more
   lesser_full : (next : FareLeg) (pick own : LegChoice) (place : Option ChangeChoice) → amount_of feed pick.product ≤ℤ amount_of feed own.product →
       IsLesserMove (full feed buyer state held leg next pick place) (full feed buyer state held leg next own place)
-  lesser_full next pick own None le =
-      let c = costs (place_kind feed None) held (place_charge feed None) _ _ le in
-      record { state = refl; paid = c.0; price = c.1 }
+  lesser_full next pick own None le = record { state = refl; cost = costs (place_kind feed None) held (place_charge feed None) _ _ le }
   lesser_full next pick own (Some change) le =
-      let c = costs (place_kind feed (Some change)) held (place_charge feed (Some change)) _ _ le in
-      record { state = refl; paid = c.0; price = c.1 }
+      record { state = refl; cost = costs (place_kind feed (Some change)) held (place_charge feed (Some change)) _ _ le }
 
   -- a leg after the state by an option that costs no more, with the same place of the change
   lesser_next : (move : Move) (pick : LegChoice) → move_of_next feed buyer state held leg move ≡ Some move →

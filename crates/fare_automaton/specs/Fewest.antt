@@ -1,5 +1,5 @@
 -- Options of a leg that are enough for a search of the cheapest, and moves that are.
-use Rattle.std.specs.Prelude.{◌≡◌, true, List, ◌++◌, All, Contains, Option, Some, is_none, ℤ, ◌+ℤ◌, ◌≤ℤ◌, option_map, slice_get}
+use Rattle.std.specs.Prelude.{◌≡◌, true, List, ◌++◌, All, Contains, Option, Some, is_none, ℤ, ◌≤ℤ◌, option_map, slice_get}
 use Rattle.std.specs.Option.{is_some}
 use Rattle.transit_base.specs.declared.numbers.LegGroupId.{LegGroupId}
 use Rattle.feed_rows.specs.declared.journeys.Buyer.{Buyer}
@@ -12,6 +12,7 @@ use Rattle.feed_rows.specs.FeedRows.{FeedRows}
 use Rattle.feed_rows.specs.FareChoices.{is_leg_choice}
 use Rattle.feed_rows.specs.FareSteps.{place_kind, move_after}
 use Rattle.feed_rows.specs.FareSums.{amount_of}
+use Rattle.fare_laws.specs.Amounts.{IsNoDearer, spent_by}
 
 -- the leg group of the option's rule; none where there is no such rule
 abbrev pub group_of : FeedRows → LegChoice → Option (Option LegGroupId)
@@ -36,11 +37,10 @@ pub record AreEnough (feed : FeedRows) (buyer : Buyer) (leg : LegFacts) (picks :
   pub right : All (λ pick. is_leg_choice feed buyer leg pick ≡ true) picks
   pub enough : (pick : LegChoice) → is_leg_choice feed buyer leg pick ≡ true → HasLesser feed picks pick
 
--- the one leads to the same state as the other, and neither pays more nor costs more
+-- the one leads to the same state as the other, and is no dearer
 pub record IsLesserMove (a b : Move) : Type 0 where
   pub state : a.state ≡ b.state
-  pub paid : a.paid.0 ≤ℤ b.paid.0
-  pub price : (a.paid.0 +ℤ a.held.0) ≤ℤ (b.paid.0 +ℤ b.held.0)
+  pub cost : IsNoDearer (spent_by a) (spent_by b)
 
 -- there are these moves, and beside each that there is stands such a one
 pub record AreEnoughMoves (feed : FeedRows) (buyer : Buyer) (state : Option FareState) (held : ℤ) (leg : LegFacts)

@@ -1,3 +1,4 @@
+pub mod AmountLaws
 pub mod StateLaws
 pub mod MoveLaws
 pub mod AfreshLaws

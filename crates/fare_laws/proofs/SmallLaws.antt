@@ -17,11 +17,8 @@ use Rattle.feed_rows.specs.FareChoices.{chosen_leg}
 use Rattle.feed_rows.specs.FareSums.{amount_of}
 use Rattle.feed_rows.specs.FareSteps.{place_kind, place_charge, frees_first, frees_next, leg_taken, place_taken, move_of_first, move_of_next, move_after}
 use Rattle.plain_laws.proofs.Laws.{All-slice_get, chain_gives}
+use Rattle.fare_laws.specs.Amounts.{IsLow}
 use Rattle.fare_laws.specs.SmallMoves.{IsSmall}
-
--- an amount of a sound feed
-abbrev IsLow : ℤ → Type 0
-IsLow amount = nat_abs amount ≤ 10 ^ 12
 
 low_amount : (feed : FeedRows) → IsSoundFeed feed → (row : ProductRowId) → IsLow (amount_of feed row)
 unfolding amount_of
@@ -29,7 +26,7 @@ low_amount feed sound row = by (slice_get feed.products row.0) refl
   where
     by : (o : Option ProductRow) → slice_get feed.products row.0 ≡ o → IsLow (option_map_or (λ r. r.amount.0) o (pos 0))
     by None is = omega arith
-    by (Some r) is = All-slice_get (λ (r : ProductRow). nat_abs r.amount.0 ≤ 10 ^ 12) feed.products row.0 r is sound.products.amounts
+    by (Some r) is = All-slice_get (λ (r : ProductRow). IsLow r.amount.0) feed.products row.0 r is sound.products.amounts
 
 -- what a change costs
 low_charge : (feed : FeedRows) → IsSoundFeed feed → (place : Option ChangeChoice) → IsLow (place_charge feed place)
@@ -60,7 +57,7 @@ move_small feed buyer None held leg move sound low is =
     let made = (cond_some _ _ _ first.gives).1 in
     record {
       paid = subst (λ (m : Move). nat_abs m.paid.0 ≤ 3 * 10 ^ 12) made (omega arith);
-      held = subst (λ (m : Move). nat_abs m.held.0 ≤ 10 ^ 12) made (low_amount feed sound move.product);
+      held = subst (λ (m : Move). IsLow m.held.0) made (low_amount feed sound move.product);
     }
 move_small feed buyer (Some state) held leg move sound low is =
     let next = chain_gives _ (chosen_leg feed leg (leg_taken move)) move is in
@@ -70,6 +67,6 @@ move_small feed buyer (Some state) held leg move sound low is =
       paid = subst (λ (m : Move). nat_abs m.paid.0 ≤ 3 * 10 ^ 12) made
           (paid_small (frees_first kind) (is_none kind || frees_next kind) held (place_charge feed (place_taken move)) (amount_of feed move.product)
           low (low_charge feed sound (place_taken move)) (low_amount feed sound move.product));
-      held = subst (λ (m : Move). nat_abs m.held.0 ≤ 10 ^ 12) made
+      held = subst (λ (m : Move). IsLow m.held.0) made
           (held_small (is_none kind) (amount_of feed move.product) (low_amount feed sound move.product));
     }
