@@ -41,6 +41,14 @@ added_made before now made picks i d lt is more =
     ∙ ap (λ (xs : List Move). joined_below i (made_at made picks) ++ xs) (sym (made_of made picks i (get_or picks i d) (slice_get-get_or picks i d lt)))
     ∙ ap (λ (k : ℕ). joined_below k (made_at made picks)) (sym next)
 
+-- the lists of all options, by these moments or the same ones
+pub whole_made : (made : LegTimes → LegChoice → List Move) (picks : List LegChoice) (moves : List Move) (n : ℕ) (times other : LegTimes) →
+    n ≡ length picks → other ≡ times → moves ≡ joined_below n (made_at (made times) picks) →
+    moves ≡ joined_below (length picks) (made_at (made other) picks)
+whole_made made picks moves n times other whole same are =
+    are ∙ ap (λ (k : ℕ). joined_below k (made_at (made times) picks)) whole
+    ∙ ap (λ (t : LegTimes). joined_below (length picks) (made_at (made t) picks)) (sym same)
+
 -- the moves are exactly those of this pick, each once
 pub record AreOf (step : Move → Option Move) (pick : LegChoice) (moves : List Move) : Type 0 where
   pub right : (move : Move) → Contains moves move → (leg_taken move ≡ pick) × (step move ≡ Some move)

@@ -1,9 +1,7 @@
 -- The moves of one option more; and those of all options are all that there are.
-use Rattle.std.proofs.Common.{◌≡◌, ◌∙◌, sym, ap, ℕ, length, arith}
-use Rattle.plain_laws.specs.Plain.{joined_below}
-use Rattle.fare_automaton.specs.declared.changes.LegTimes.{LegTimes}
-use Rattle.fare_automaton.specs.Options.{first_made, made_at}
-use Rattle.fare_automaton.proofs.MadeLaws.{added_made, starts_are}
+use Rattle.std.proofs.Common.{arith}
+use Rattle.fare_automaton.specs.Options.{first_made}
+use Rattle.fare_automaton.proofs.MadeLaws.{added_made, whole_made, starts_are}
 use Rattle.fare_automaton.proofs.FewestLaws.{starts_enough}
 use Rattle.fare_laws.proofs.StartLaws.{start_extends}
 use Rattle.fare_automaton.proofs.automaton.Automaton.start_into.Goals as goal
@@ -20,21 +18,12 @@ pub returns-clause-all : goal.returns-clause-all
 returns-clause-all c leg same picks =
     let feed = c.args.self.now.feed in
     let buyer = c.args.self.now.buyer in
-    let options = c.args.options.now in
     let moves = c.loop-number.moves.items in
-    let whole : c.loop-number.number ≡ length options = omega arith in
-    let are = starts_are feed buyer leg options moves picks
-    (c.loop-number.invariant ∙ ap (λ (n : ℕ). joined_below n (made_at (first_made feed c.args.times) options)) whole
-    ∙ ap (λ (times : LegTimes). joined_below (length options) (made_at (first_made feed times) options)) (sym same)) in
+    let are = starts_are feed buyer leg c.args.options.now moves picks
+    (whole_made (first_made feed) c.args.options.now moves c.loop-number.number c.args.times _ (omega arith) same c.loop-number.invariant) in
     record { exact = are; extends = λ choice pays. start_extends feed buyer leg choice moves pays are }
 
 pub returns-clause-enough : goal.returns-clause-enough
 returns-clause-enough c leg same picks =
-    let feed = c.args.self.now.feed in
-    let buyer = c.args.self.now.buyer in
-    let options = c.args.options.now in
-    let moves = c.loop-number.moves.items in
-    let whole : c.loop-number.number ≡ length options = omega arith in
-    starts_enough feed buyer leg options moves picks
-    (c.loop-number.invariant ∙ ap (λ (n : ℕ). joined_below n (made_at (first_made feed c.args.times) options)) whole
-    ∙ ap (λ (times : LegTimes). joined_below (length options) (made_at (first_made feed times) options)) (sym same))
+    starts_enough c.args.self.now.feed c.args.self.now.buyer leg c.args.options.now c.loop-number.moves.items picks
+    (whole_made (first_made c.args.self.now.feed) c.args.options.now _ c.loop-number.number c.args.times _ (omega arith) same c.loop-number.invariant)

@@ -1,10 +1,8 @@
 -- The moves of one option more; and those of all options are all that there are.
-use Rattle.std.proofs.Common.{◌≡◌, ◌∙◌, sym, ap, ℕ, length, arith}
+use Rattle.std.proofs.Common.{arith}
 use Rattle.std.proofs.lemmas.Option.{none-some}
-use Rattle.plain_laws.specs.Plain.{joined_below}
-use Rattle.fare_automaton.specs.declared.changes.LegTimes.{LegTimes}
-use Rattle.fare_automaton.specs.Options.{next_made, made_at}
-use Rattle.fare_automaton.proofs.MadeLaws.{added_made, steps_are}
+use Rattle.fare_automaton.specs.Options.{next_made}
+use Rattle.fare_automaton.proofs.MadeLaws.{added_made, whole_made, steps_are}
 use Rattle.fare_automaton.proofs.FewestLaws.{steps_enough}
 use Rattle.fare_laws.proofs.ExtensionLaws.{step_extends}
 use Rattle.fare_automaton.proofs.automaton.Automaton.step_into.Goals as goal
@@ -26,12 +24,9 @@ returns-clause-all c leg same picks =
     let buyer = c.args.self.now.buyer in
     let state = c.args.state.now in
     let held = c.args.held.0 in
-    let options = c.args.options.now in
     let moves = c.loop-number.moves.items in
-    let whole : c.loop-number.number ≡ length options = omega arith in
-    let are = steps_are feed buyer state held leg options moves picks
-    (c.loop-number.invariant.moves ∙ ap (λ (n : ℕ). joined_below n (made_at (next_made feed buyer state held c.args.times) options)) whole
-    ∙ ap (λ (times : LegTimes). joined_below (length options) (made_at (next_made feed buyer state held times) options)) (sym same)) in
+    let are = steps_are feed buyer state held leg c.args.options.now moves picks
+    (whole_made (next_made feed buyer state held) c.args.options.now moves c.loop-number.number c.args.times _ (omega arith) same c.loop-number.invariant.moves) in
     record {
       exact = are;
       extends = λ legs choice pays has_state has_held.
@@ -40,13 +35,6 @@ returns-clause-all c leg same picks =
 
 pub returns-clause-enough : goal.returns-clause-enough
 returns-clause-enough c leg same picks =
-    let feed = c.args.self.now.feed in
-    let buyer = c.args.self.now.buyer in
-    let state = c.args.state.now in
-    let held = c.args.held.0 in
-    let options = c.args.options.now in
-    let moves = c.loop-number.moves.items in
-    let whole : c.loop-number.number ≡ length options = omega arith in
-    steps_enough feed buyer state held leg options moves picks
-    (c.loop-number.invariant.moves ∙ ap (λ (n : ℕ). joined_below n (made_at (next_made feed buyer state held c.args.times) options)) whole
-    ∙ ap (λ (times : LegTimes). joined_below (length options) (made_at (next_made feed buyer state held times) options)) (sym same))
+    steps_enough c.args.self.now.feed c.args.self.now.buyer c.args.state.now c.args.held.0 leg c.args.options.now c.loop-number.moves.items picks
+    (whole_made (next_made c.args.self.now.feed c.args.self.now.buyer c.args.state.now c.args.held.0) c.args.options.now _ c.loop-number.number c.args.times _
+    (omega arith) same c.loop-number.invariant.moves)
