@@ -5,7 +5,6 @@ pub mod MadeLaws
 pub mod FewestLaws
 pub mod CheapestLaws
 pub mod PickedLaws
-pub mod SelectedLaws
 pub mod ReadLaws
 pub mod KnownLaws
 pub mod PairLaws

@@ -22,7 +22,11 @@ use Rattle.feed_rows.specs.FareChoices.{is_open, open_rows, is_leg_choice, is_ch
 use Rattle.feed_rows.specs.FareSteps.{is_arranged_after, is_row_after, is_place_after}
 use Rattle.plain_laws.specs.Plain.{at_and, filled_and, joined_below}
 use Rattle.plain_laws.proofs.Laws.{Contains-joined_below, joined_below-tells, AllPairs-joined_below, joined_below-same, joined_below-none, joined_below-picks, All-from, filled_and-true, list_any-place}
-use Rattle.fare_automaton.specs.Compiled.{is_chosen}
+use Rattle.fare_transfer_rules.specs.declared.groups.ClassedRow.{ClassedRow}
+use Rattle.fare_transfer_rules.specs.BuiltTransferRules.{is_between, AreRowsBetween, IsLeastFor}
+use Rattle.fare_transfer_rules.specs.Classes.{row_to}
+use Rattle.fare_transfer_rules.specs.Fits.{is_chosen}
+use Rattle.fare_transfer_rules.proofs.SelectedLaws.{chosen_is}
 use Rattle.fare_automaton.specs.Options.{ArePicks, pick_of, is_row_of, pick_if, rule_picks, picks_if, ArePlaces, place_of, place_if, product_places, row_places, chosen_places, place_list}
 use Rattle.fare_automaton.proofs.JudgeLaws.{leg_choice_parts}
 use Rattle.fare_automaton.proofs.PickedLaws.{flat_map-picks, map-picks}
@@ -343,6 +347,29 @@ chosen_places-where feed buyer change least rule row b before at is =
 pub chosen_places-past : (feed : FeedRows) (buyer : Buyer) (change : AskedChange) (least : Option (Option ℕ)) (rule : XferId)
     (before : List (Option ChangeChoice)) → slice_get feed.transfer_rules rule.0 ≡ None → before ≡ before ++ chosen_places feed buyer change least rule
 chosen_places-past feed buyer change least rule before none = rw none (sym (append-nil before))
+
+-- the rows that are chosen, of those for changes between the groups, give the places of those that are selected
+pub places_are : (feed : FeedRows) (buyer : Buyer) (change : AskedChange) (among : List ClassedRow)
+    (are : AreRowsBetween feed change.from change.to among) (least : Option (Option ℕ)) → IsLeastFor feed change least →
+    flat_map (λ (r : ClassedRow). chosen_places feed buyer change least r.row) among ≡ joined_below (length feed.transfer_rules) (row_places feed buyer change)
+places_are feed buyer change among are least is_least =
+    ap (flat_map (λ (r : ClassedRow). chosen_places feed buyer change least r.row)) are.are
+    ∙ flat_map-picks (length feed.transfer_rules) (λ i. at_and feed.transfer_rules i (is_between feed change.from change.to)) (row_to are.to_class)
+    (λ (r : ClassedRow). chosen_places feed buyer change least r.row) (row_places feed buyer change)
+    (λ i. by i (slice_get feed.transfer_rules i))
+  where
+    both : (b c : Bool) (places : List (Option ChangeChoice)) → (if b then (if c then places else []) else []) ≡ (if b && c then places else [])
+    both true c places = refl
+    both false c places = refl
+
+    by : (i : ℕ) (o : Option TransferRuleRow)
+        → (if filled_and o (is_between feed change.from change.to)
+        then option_map_or (λ row. if is_chosen change least row then product_places feed buyer i row.product else []) o [] else [])
+        ≡ option_map_or (λ row. if is_selected feed change row then product_places feed buyer i row.product else []) o []
+    by i None = refl
+    by i (Some row) =
+        both (is_between feed change.from change.to row) (is_chosen change least row) (product_places feed buyer i row.product)
+        ∙ ap (λ c. if c then product_places feed buyer i row.product else []) (chosen_is feed change least is_least row)
 
 -- the open rows of a product give the places by a transfer row with it
 pub product_places-rows : (feed : FeedRows) (buyer : Buyer) (rule : XferId) (product : ProductId) →

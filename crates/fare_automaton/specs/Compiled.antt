@@ -1,5 +1,5 @@
 -- What an automaton has at hand: what rows read of each leg group, and the open rows of each product.
-use Rattle.std.specs.Prelude.{◌≡◌, ℕ, ◌+◌, ◌*◌, Bool, ◌&&◌, ◌||◌, not, nat_le, nat_lt, List, [], length, slice_get, unwrap_or, Option, Some}
+use Rattle.std.specs.Prelude.{◌≡◌, ℕ, ◌+◌, ◌*◌, Bool, nat_lt, List, [], length, slice_get, unwrap_or, Option, Some}
 use Rattle.std.specs.Option.{option_map_or}
 use Rattle.std.specs.List.{list_any}
 use Rattle.transit_base.specs.declared.numbers.LegGroupId.{LegGroupId}
@@ -11,11 +11,9 @@ use Rattle.feed_rows.specs.declared.rows.TransferRuleRow.{TransferRuleRow}
 use Rattle.feed_rows.specs.FeedRows.{FeedRows}
 use Rattle.feed_rows.specs.FareChoices.{open_rows}
 use Rattle.feed_rows.specs.FareStates.{greatest_count, is_clock_read, counts_from_departure, counts_from_arrival}
-use Rattle.feed_rows.specs.TransferRules.{AskedChange, count_le}
-use Rattle.plain_laws.specs.Plain.{at_and, empty_or, filled_and, list_below, when}
+use Rattle.plain_laws.specs.Plain.{at_and, filled_and, list_below, when}
 use Rattle.fare_transfer_rules.specs.declared.groups.ClassedRow.{ClassedRow}
 use Rattle.fare_transfer_rules.specs.BuiltTransferRules.{AreRowsBetween}
-use Rattle.fare_transfer_rules.specs.Counts.{IsLeastCount, is_within}
 use Rattle.fare_automaton.specs.declared.reads.Clock.{Clock}
 use Rattle.fare_automaton.specs.declared.reads.Clock.TheVariants.{Departure, Arrival}
 use Rattle.fare_automaton.specs.declared.reads.GroupReads.{GroupReads}
@@ -70,27 +68,3 @@ ArePairRows feed pairs =
 -- the table has the open rows of each product
 abbrev pub AreOpenRows : FeedRows → Buyer → List (List ProductRowId) → Type 0
 AreOpenRows feed buyer opened = (product : ProductId) → unwrap_or (slice_get opened product.0) [] ≡ open_rows feed product buyer
-
--- ---- rows for a change
-
--- the limit of the row is empty or holds, and its count is at least the change's
-abbrev pub suits : AskedChange → TransferRuleRow → Bool
-suits change row = empty_or row.limit change.holds && empty_or row.count (nat_le change.count)
-
-abbrev pub suits_at : FeedRows → AskedChange → XferId → Bool
-suits_at feed change row = at_and feed.transfer_rules row.0 (suits change)
-
--- where the row suits, this count is at most its own
-abbrev pub not_above : AskedChange → Option ℕ → TransferRuleRow → Bool
-not_above change count row = not (suits change row) || count_le count row.count
-
-abbrev pub not_above_at : FeedRows → AskedChange → Option ℕ → XferId → Bool
-not_above_at feed change count row = empty_or (slice_get feed.transfer_rules row.0) (not_above change count)
-
--- the least count among those of these rows that suit
-abbrev pub AreLeast : FeedRows → AskedChange → List ClassedRow → Option (Option ℕ) → Type 0
-AreLeast feed change = IsLeastCount (not_above_at feed change) (suits_at feed change)
-
--- the row suits, with the least count
-abbrev pub is_chosen : AskedChange → Option (Option ℕ) → TransferRuleRow → Bool
-is_chosen change least row = suits change row && is_within least row.count

@@ -16,10 +16,10 @@ use Rattle.feed_rows.specs.TransferRules.{AskedChange, is_selected}
 use Rattle.feed_rows.specs.FareChoices.{is_open, is_leg_choice}
 use Rattle.feed_rows.specs.FareSteps.{asked_after, is_arranged_after, is_place_after, first_move, next_move}
 use Rattle.plain_laws.specs.Plain.{at_and, joined_below}
+use Rattle.fare_transfer_rules.specs.Fits.{is_chosen}
 use Rattle.fare_laws.specs.BareMoves.{bare}
 use Rattle.fare_automaton.specs.declared.changes.LegTimes.{LegTimes}
 use Rattle.fare_automaton.specs.Changes.{chosen_at, leg_by}
-use Rattle.fare_automaton.specs.Compiled.{is_chosen}
 
 -- ---- legs
 

@@ -3,10 +3,12 @@ ghost use Rattle.std.specs.Prelude.{◌≡◌, ◌&&◌, ◌==◌, option_map, i
 ghost use Rattle.plain_laws.specs.Plain.{at_and, empty_or, filled_and};
 ghost use Rattle.feed_rows.specs.FareChoices.{is_open, chosen_leg, is_leg_choice, is_change_product};
 ghost use Rattle.feed_rows.specs.FareSteps.{leg_taken, place_taken, is_whole, is_row_after, is_place_after};
-ghost use Rattle.fare_automaton.specs.Changes.{leg_of, asked_of, chosen_at};
+ghost use Rattle.fare_transfer_rules.specs.Changes.{asked_of};
+ghost use Rattle.fare_automaton.specs.Changes.{leg_of, chosen_at};
 
 use crate::automaton::Automaton;
-use crate::changes::{Change, GroupedLeg, LegTimes};
+use crate::changes::{GroupedLeg, LegTimes};
+use fare_transfer_rules::Change;
 use feed_rows::{Buyer, ChangeChoice, LegChoice, LegFacts, Move, ProductRow};
 use transit_base::{ProductId, ProductRowId, RiderId};
 

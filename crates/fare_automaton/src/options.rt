@@ -3,13 +3,11 @@ ghost use Rattle.std.specs.Prelude.{◌≡◌, ◌++◌, [], ◌∷◌, flat_map
 ghost use Rattle.transit_base.specs.declared.numbers.ProductRowId.{ProductRowId};
 ghost use Rattle.transit_base.specs.declared.numbers.RuleId.{RuleId};
 ghost use Rattle.fare_transfer_rules.specs.declared.groups.ClassedRow.{ClassedRow};
-ghost use Rattle.fare_automaton.specs.Changes.{asked_of};
+ghost use Rattle.fare_transfer_rules.specs.Changes.{asked_of};
 ghost use Rattle.fare_automaton.specs.Options.{ArePicks, pick_of, rule_picks, place_of, product_places, chosen_places, place_list};
 
 use crate::automaton::Automaton;
-use crate::changes::Change;
-use crate::rows::is_chosen;
-use fare_transfer_rules::ClassedRow;
+use fare_transfer_rules::{Change, ClassedRow, is_chosen};
 use feed_rows::{ChangeChoice, LegChoice, LegFacts};
 use std::alloc::{AllocError, Global};
 use transit_base::{ProductId, ProductRowId, RuleId, XferId};
@@ -79,7 +77,7 @@ impl<'f> Automaton<'f> {
         ensures { OnOk result (places.new.items ≡ places.old.items ++ place_list self.now.feed self.now.buyer (Some (asked_of change.now))) }
     {
         let among = self.rows_between(change.from, change.to);
-        let least = self.least_count(change, among);
+        let least = self.least_for(change, among);
         if least.is_some() {
             self.push_places(change, least, among, places)
         } else {

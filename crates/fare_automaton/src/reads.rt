@@ -1,13 +1,11 @@
 //! What the rows of `fare_transfer_rules.txt` read of changes from each leg group, found once.
-ghost use Rattle.std.specs.Prelude.{◌≡◌, IfOk, fold, map, max, slice_get};
-ghost use Rattle.std.specs.Option.{option_copied};
+ghost use Rattle.std.specs.Prelude.{◌≡◌, IfOk, fold, map, max};
 ghost use Rattle.plain_laws.specs.Plain.{at_and, filled_and};
 ghost use Rattle.fare_transfer_rules.specs.declared.groups.ClassedRow.{ClassedRow};
 ghost use Rattle.fare_transfer_rules.specs.BuiltTransferRules.{AreXferRulesOf};
 ghost use Rattle.fare_automaton.specs.Compiled.{reads_of, AreReads, count_at, counts_from, has_limit, some_limit};
 
-use crate::changes::counts_from_departure;
-use fare_transfer_rules::{ClassedRow, XferRules};
+use fare_transfer_rules::{ClassedRow, XferRules, counts_from_departure, row_at};
 use feed_rows::{Feed, Limit, TransferRuleRow};
 use std::alloc::{AllocError, Global};
 use transit_base::{LegGroupId, XferId};
@@ -122,11 +120,4 @@ fn counts_from(kind: u8, clock: Clock) -> bool
         Clock::Departure => counts_from_departure(kind),
         Clock::Arrival => !counts_from_departure(kind),
     }
-}
-
-/// The row with this number.
-fn row_at(rows: &[TransferRuleRow], row: XferId) -> Option<&TransferRuleRow>
-    ensures { option_copied result ≡ slice_get rows.now row.0 }
-{
-    rows.get(row.0 as usize)
 }

@@ -1,4 +1,6 @@
 pub mod ClassLaws
 pub mod CountLaws
+pub mod PickedLaws
+pub mod SelectedLaws
 pub mod RowLaws
 pub mod PairLaws

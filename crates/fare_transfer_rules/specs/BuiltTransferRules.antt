@@ -1,16 +1,18 @@
 -- What holds of the transfer rules that were built from a feed.
-use Rattle.std.specs.Prelude.{◌≡◌, ℕ, Bool, ◌&&◌, List, filter}
+use Rattle.std.specs.Prelude.{◌≡◌, ℕ, Bool, ◌&&◌, List, filter, Option, is_some}
 use Rattle.std.specs.List.{list_any}
 use Rattle.std.specs.List.Sorted.{IsNonDecreasingBy}
 use Rattle.transit_base.specs.declared.numbers.LegGroupId.{LegGroupId}
 use Rattle.feed_rows.specs.declared.rows.TransferRuleRow.{TransferRuleRow}
 use Rattle.feed_rows.specs.FeedRows.{FeedRows}
-use Rattle.feed_rows.specs.TransferRules.{is_listed_group, group_matches}
+use Rattle.feed_rows.specs.TransferRules.{AskedChange, is_listed_group, group_matches, is_least_count}
+use Rattle.feed_rows.specs.FareSteps.{is_arranged_after}
 use Rattle.fare_transfer_rules.specs.declared.XferRules.{XferRules}
 use Rattle.fare_transfer_rules.specs.declared.groups.ClassedRow.{ClassedRow}
 use Rattle.plain_laws.specs.Plain.{at_and, ids_where}
 use Rattle.number_marks.specs.Marks.{is_marked}
 use Rattle.fare_transfer_rules.specs.Classes.{row_to, is_of, leads_to, rows_at}
+use Rattle.fare_transfer_rules.specs.Counts.{is_within}
 
 -- the rules are those of this feed
 pub record AreXferRulesOf (feed : FeedRows) (rules : XferRules) : Type 0 where
@@ -36,3 +38,9 @@ abbrev pub AreRowsFrom : FeedRows → LegGroupId → List ClassedRow → Type 0
 AreRowsFrom feed group rows =
     (test : TransferRuleRow → Bool) → list_any (λ (r : ClassedRow). at_and feed.transfer_rules r.row.0 test) rows
     ≡ list_any (λ row. group_matches feed (λ r. r.from) row.from group && test row) feed.transfer_rules
+
+-- the least count that suffices for the change: a count is at most this exactly where no row whose count suffices has a
+-- lesser one, and there is one exactly where the change is arranged
+pub record IsLeastFor (feed : FeedRows) (change : AskedChange) (least : Option (Option ℕ)) : Type 0 where
+  pub within : (count : Option ℕ) → is_within least count ≡ is_least_count feed change count
+  pub some : is_some least ≡ is_arranged_after feed change

@@ -3,3 +3,4 @@ pub mod Classes
 pub mod Counts
 pub mod Fits
 pub mod BuiltTransferRules
+pub mod Changes

@@ -1,27 +1,32 @@
 //! The transfer rules of a feed: which changes between legs are arranged, and by which rows.
 #![tactic(auto)]
 
-ghost use Rattle.std.specs.Prelude.{◌≡◌, Option, ℕ, ◌&&◌, ◌||◌, ◌++◌, is_some, IfOk, OnOk};
+ghost use Rattle.std.specs.Prelude.{◌≡◌, Option, ◌++◌, IfOk, OnOk};
 ghost use Rattle.feed_rows.specs.FeedRows.{FeedRows};
-ghost use Rattle.feed_rows.specs.TransferRules.{group_matches, is_selected_transfer, is_arranged, selected_transfers, limit_holds, elapsed, counted_from, counted_to};
-ghost use Rattle.plain_laws.specs.Plain.{at_and, empty_or};
-ghost use Rattle.fare_transfer_rules.specs.BuiltTransferRules.{AreXferRulesOf, AreRowsBetween, AreRowsFrom};
-ghost use Rattle.fare_transfer_rules.specs.Counts.{is_within};
-ghost use Rattle.fare_transfer_rules.specs.Fits.{group_fits, count_fits, fits, fits_at, not_above_at, is_chosen_at, chosen_among, pair_rows, rows_for, AreLeast};
+ghost use Rattle.feed_rows.specs.TransferRules.{group_matches, is_selected, is_selected_transfer, is_arranged, selected_transfers};
+ghost use Rattle.plain_laws.specs.Plain.{at_and};
+ghost use Rattle.fare_transfer_rules.specs.BuiltTransferRules.{AreXferRulesOf, AreRowsBetween, AreRowsFrom, IsLeastFor, is_between};
+ghost use Rattle.fare_transfer_rules.specs.Changes.{asked_of};
+ghost use Rattle.fare_transfer_rules.specs.Fits.{group_fits, chosen_among, pair_rows};
 
+mod changes;
 mod columns;
 mod counts;
 mod groups;
+mod selected;
 
+use crate::changes::known_change;
+pub use crate::changes::{Change, counts_from_departure};
 use crate::columns::Column;
-pub use crate::counts::{is_within, lesser};
 pub use crate::groups::ClassedRow;
 use crate::groups::{class_of, rows_by_from, rows_to};
-use feed_rows::{Feed, Limit, TransferFacts, TransferRuleRow, XferList};
+use crate::selected::is_chosen_at;
+pub use crate::selected::{is_chosen, least_count, row_at};
+use feed_rows::{Feed, TransferFacts, TransferRuleRow, XferList};
 use item_groups::Groups;
 use number_marks::{is_marked, marked};
 use std::alloc::{AllocError, Global};
-use transit_base::{LegGroupId, Moment, XferId};
+use transit_base::{LegGroupId, XferId};
 
 /// The transfer rules of a feed.
 ///
@@ -92,24 +97,40 @@ impl XferRules {
     ) -> Result<(), AllocError>
         ensures { OnOk result ((feed : FeedRows) → AreXferRulesOf feed self.now → rows.new.items ≡ rows.old.items ++ selected_transfers feed change.now) }
     {
-        let among = self.rows_for(change);
-        let least = self.least_count(change, among);
-        self.push_chosen(change, among, least, rows)
+        let asked = known_change(change);
+        let among = self.rows_between(asked.from, asked.to);
+        let least = least_count(&self.rules, &asked, among);
+        self.push_chosen(&asked, among, least, rows)
     }
 
     /// Whether the row is selected for the change. A number that is no row's is never selected.
     pub fn selects(&self, change: &TransferFacts, row: XferId) -> bool
         ensures { (feed : FeedRows) → AreXferRulesOf feed self.now → result ≡ at_and feed.transfer_rules row.0 (is_selected_transfer feed change.now) }
     {
-        let least = self.least_count(change, self.rows_for(change));
-        self.is_chosen(change, least, row)
+        let asked = known_change(change);
+        match row_at(&self.rules, row) {
+            Some(rule) => self.is_selected(&asked, self.least_count(&asked), rule),
+            None => false,
+        }
     }
 
     /// Whether the change is arranged: some row is selected for it.
     pub fn arranged(&self, change: &TransferFacts) -> bool
         ensures { (feed : FeedRows) → AreXferRulesOf feed self.now → result ≡ is_arranged feed change.now }
     {
-        self.least_count(change, self.rows_for(change)).is_some()
+        self.least_count(&known_change(change)).is_some()
+    }
+
+    /// Whether the row is selected for the change, where this is the least count that suffices.
+    pub fn is_selected(
+        &self,
+        change: &Change,
+        least: Option<Option<u32>>,
+        row: &TransferRuleRow,
+    ) -> bool
+        ensures { (feed : FeedRows) → AreXferRulesOf feed self.now → IsLeastFor feed (asked_of change.now) least → result ≡ is_selected feed (asked_of change.now) row.now }
+    {
+        self.is_between(change, row) && is_chosen(change, least, row)
     }
 
     /// The rows for changes from the one leg group to the other, in file order. They are found by two searches.
@@ -128,24 +149,17 @@ impl XferRules {
     }
 
     /// Whether a row with this in the column `from_leg_group_id` is for changes from the leg group.
-    pub fn matches_from(&self, field: Option<LegGroupId>, group: LegGroupId) -> bool
+    fn matches_from(&self, field: Option<LegGroupId>, group: LegGroupId) -> bool
         ensures { (feed : FeedRows) → AreXferRulesOf feed self.now → result ≡ group_matches feed (λ r. r.from) field group }
     {
         group_fits(&self.froms, field, group)
     }
 
     /// Whether a row with this in the column `to_leg_group_id` is for changes to the leg group.
-    pub fn matches_to(&self, field: Option<LegGroupId>, group: LegGroupId) -> bool
+    fn matches_to(&self, field: Option<LegGroupId>, group: LegGroupId) -> bool
         ensures { (feed : FeedRows) → AreXferRulesOf feed self.now → result ≡ group_matches feed (λ r. r.to) field group }
     {
         group_fits(&self.tos, field, group)
-    }
-
-    /// The rows that may match both legs of the change, in file order.
-    fn rows_for(&self, change: &TransferFacts) -> &[ClassedRow]
-        ensures { (feed : FeedRows) → AreXferRulesOf feed self.now → result.now ≡ rows_for self.now change.now }
-    {
-        self.pair_rows(change.from, change.to)
     }
 
     /// The rows of the classes of the two leg groups, in file order.
@@ -157,71 +171,40 @@ impl XferRules {
         rows_to(self.by_from.get(from_class as usize), to_class)
     }
 
-    /// Of the rows among these that are candidates and whose count is at least the change's, the least count; none where
-    /// there is no such row.
-    fn least_count(&self, change: &TransferFacts, among: &[ClassedRow]) -> Option<Option<u32>>
-        ensures { AreLeast self.now change.now among.now result }
+    /// The least count that suffices for the change; none where it isn't arranged.
+    fn least_count(&self, change: &Change) -> Option<Option<u32>>
+        ensures { (feed : FeedRows) → AreXferRulesOf feed self.now → IsLeastFor feed (asked_of change.now) result }
     {
-        let mut least = None;
-        for classed in among {
-            least = self.with_count(change, classed.row, least);
-        }
-        least
+        least_count(
+            &self.rules,
+            change,
+            self.rows_between(change.from, change.to),
+        )
     }
 
-    /// The least count, with this row.
-    fn with_count(
-        &self,
-        change: &TransferFacts,
-        row: XferId,
-        least: Option<Option<u32>>,
-    ) -> Option<Option<u32>>
-        ensures within { (count : Option ℕ) → is_within result count ≡ (is_within least count && not_above_at self.now change.now count row) }
-        ensures some { is_some result ≡ (is_some least || fits_at self.now change.now row) }
-    {
-        match self.rules.get(row.0 as usize) {
-            Some(rule) if self.fits(change, rule) => Some(lesser(least, rule.count)),
-            _ => least,
-        }
-    }
-
-    /// Adds those of the rows that are selected where this is the least count.
+    /// Adds those of the rows that are chosen where this is the least count.
     fn push_chosen(
         &self,
-        change: &TransferFacts,
+        change: &Change,
         among: &[ClassedRow],
         least: Option<Option<u32>>,
         rows: &mut Vec<XferId>,
     ) -> Result<(), AllocError>
-        ensures { OnOk result (rows.new.items ≡ rows.old.items ++ chosen_among self.now change.now least among.now) }
+        ensures { OnOk result (rows.new.items ≡ rows.old.items ++ chosen_among self.now.rules.items (asked_of change.now) least among.now) }
     {
         for classed in among {
-            if self.is_chosen(change, least, classed.row) {
+            if is_chosen_at(&self.rules, change, least, classed.row) {
                 rows.push(classed.row)?;
             }
         }
         Ok(())
     }
 
-    /// Whether the row with this number is a candidate of the least count, whose count is at least the change's.
-    fn is_chosen(&self, change: &TransferFacts, least: Option<Option<u32>>, row: XferId) -> bool
-        ensures { result ≡ is_chosen_at self.now change.now least row }
+    /// Whether the row is for changes between the two groups of the change.
+    fn is_between(&self, change: &Change, row: &TransferRuleRow) -> bool
+        ensures { (feed : FeedRows) → AreXferRulesOf feed self.now → result ≡ is_between feed change.now.from change.now.to row.now }
     {
-        match self.rules.get(row.0 as usize) {
-            Some(rule) => self.fits(change, rule) && is_within(least, rule.count),
-            None => false,
-        }
-    }
-
-    /// Whether the row is a candidate for the change, and its count is at least the change's.
-    #[tactic(auto, unfolding(crate::specs::Fits::fits))]
-    fn fits(&self, change: &TransferFacts, rule: &TransferRuleRow) -> bool
-        ensures { result ≡ fits self.now change.now rule.now }
-    {
-        group_fits(&self.froms, rule.from, change.from)
-            && group_fits(&self.tos, rule.to, change.to)
-            && limit_fits(change, rule.limit)
-            && count_fits(change.count, rule.count)
+        self.matches_from(row.from, change.from) && self.matches_to(row.to, change.to)
     }
 }
 
@@ -234,70 +217,6 @@ fn group_fits(named: &[bool], rule: Option<LegGroupId>, group: LegGroupId) -> bo
         None => !is_marked(named, group.0),
     }
 }
-
-/// Whether the count of a row, where it has one, is at least that of a change.
-fn count_fits(change: u32, rule: Option<u32>) -> bool
-    ensures { result ≡ count_fits change rule }
-{
-    match rule {
-        Some(count) => change <= count,
-        None => true,
-    }
-}
-
-/// Whether the limit of a row, where it has one, holds for the change.
-fn limit_fits(change: &TransferFacts, limit: Option<Limit>) -> bool
-    ensures { result ≡ empty_or limit (limit_holds change.now) }
-{
-    match limit {
-        Some(limit) => limit_holds(change, limit),
-        None => true,
-    }
-}
-
-/// Whether the elapsed seconds are at most the limit.
-#[tactic(auto, unfolding(feed_rows::specs::TransferRules::limit_holds))]
-fn limit_holds(change: &TransferFacts, limit: Limit) -> bool
-    ensures { result ≡ limit_holds change.now limit }
-{
-    elapsed(change, limit.kind) <= i128::from(limit.seconds)
-}
-
-/// The moment from which a limit of this type counts.
-fn counted_from(change: &TransferFacts, kind: u8) -> Moment
-    ensures { result.0 ≡ counted_from kind change.now }
-{
-    if kind == DEPARTURE_TO_ARRIVAL || kind == DEPARTURE_TO_DEPARTURE {
-        change.first_departure
-    } else {
-        change.first_arrival
-    }
-}
-
-/// The moment to which a limit of this type counts.
-fn counted_to(change: &TransferFacts, kind: u8) -> Moment
-    ensures { result.0 ≡ counted_to kind change.now }
-{
-    if kind == DEPARTURE_TO_ARRIVAL || kind == ARRIVAL_TO_ARRIVAL {
-        change.next_arrival
-    } else {
-        change.next_departure
-    }
-}
-
-/// The seconds that a limit of this type looks at.
-fn elapsed(change: &TransferFacts, kind: u8) -> i128
-    ensures { result ≡ elapsed kind change.now }
-{
-    i128::from(counted_to(change, kind).0) - i128::from(counted_from(change, kind).0)
-}
-
-/// The `duration_limit_type` from the departure of the run's first leg to the arrival of the leg after the change.
-const DEPARTURE_TO_ARRIVAL: u8 = 0;
-/// From the departure of the one to the departure of the other.
-const DEPARTURE_TO_DEPARTURE: u8 = 1;
-/// From the arrival of the one to the arrival of the other.
-const ARRIVAL_TO_ARRIVAL: u8 = 3;
 
 /// The rows as a list.
 fn row_list(alloc: Global, rows: &[XferId]) -> Result<XferList, AllocError>

@@ -3,7 +3,7 @@ use Rattle.std.proofs.Common.{sym, ◌∙◌, ap, true, false}
 use Rattle.std.specs.Option.{option_copied}
 use Rattle.std.proofs.lemmas.List.{append-nil}
 use Rattle.std.proofs.lemmas.Result.{on_ok_weaker}
-use Rattle.fare_automaton.specs.Changes.{asked_of}
+use Rattle.fare_transfer_rules.specs.Changes.{asked_of}
 use Rattle.fare_automaton.proofs.OptionLaws.{chosen_places-where, chosen_places-past}
 use Rattle.fare_automaton.proofs.automaton.Automaton.push_chosen.Goals as goal
 

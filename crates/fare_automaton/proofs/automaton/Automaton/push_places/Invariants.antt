@@ -2,7 +2,7 @@
 use Rattle.std.proofs.Common.{◌≡◌, ◌++◌, take}
 use Rattle.std.specs.Prelude.{flat_map}
 use Rattle.fare_transfer_rules.specs.declared.groups.ClassedRow.{ClassedRow}
-use Rattle.fare_automaton.specs.Changes.{asked_of}
+use Rattle.fare_transfer_rules.specs.Changes.{asked_of}
 use Rattle.fare_automaton.specs.Options.{chosen_places}
 use Rattle.fare_automaton.proofs.automaton.Automaton.push_places.Given as goal
 

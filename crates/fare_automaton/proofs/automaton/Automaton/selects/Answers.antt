@@ -1,17 +1,14 @@
--- A row between the groups is selected where it is chosen.
-use Rattle.std.proofs.Common.{◌∙◌, refl, true, false}
-use Rattle.fare_automaton.specs.Changes.{asked_of}
-use Rattle.fare_automaton.proofs.SelectedLaws.{chosen_is}
+-- The row is judged by the least count that suffices.
+use Rattle.std.proofs.Common.{◌∙◌, ap, subst, sym}
+use Rattle.feed_rows.specs.TransferRules.{is_selected}
+use Rattle.fare_transfer_rules.specs.BuiltTransferRules.{IsLeastFor}
+use Rattle.fare_transfer_rules.specs.Changes.{asked_of}
+use Rattle.fare_automaton.specs.Terms.{FareTerms}
 use Rattle.fare_automaton.proofs.automaton.Automaton.selects.Goals as goal
 
-pub returns-then-is_between : goal.returns-then-is_between
-returns-then-is_between c =
-    chosen_is c.args.self.now.feed (asked_of c.args.change.now) c.rows_between.result.now c.rows_between.ensures
-    c.least_count-least.result c.least_count-least.ensures c.args.row.now true c.is_chosen.result c.if-is_between.ensures
-    c.is_chosen.ensures
-
-pub returns-else-is_between : goal.returns-else-is_between
-returns-else-is_between c =
-    c.if-is_between.false
-    ∙ chosen_is c.args.self.now.feed (asked_of c.args.change.now) c.rows_between.result.now c.rows_between.ensures
-    c.least_count-least.result c.least_count-least.ensures c.args.row.now false _ c.if-is_between.ensures refl
+pub returns : goal.returns
+returns c =
+    let change = asked_of c.args.change.now in
+    c.is_selected.ensures c.self.inside.feed.now c.self.invariant.1
+    (subst (λ (t : FareTerms). IsLeastFor t.feed change c.least_for-least.result) (sym c.self.view_is) c.least_for-least.ensures)
+    ∙ ap (λ (t : FareTerms). is_selected t.feed change c.args.row.now) c.self.view_is

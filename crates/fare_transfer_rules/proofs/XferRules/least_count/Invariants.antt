@@ -1,6 +1,0 @@
-use Rattle.std.proofs.Common.{take}
-use Rattle.fare_transfer_rules.specs.Fits.{AreLeast}
-use Rattle.fare_transfer_rules.proofs.XferRules.least_count.Given as goal
-
-abbrev pub invariant-loop-classed : goal.invariant-loop-classed
-invariant-loop-classed l = AreLeast l.self l.change (take l.classed-index l.among) l.least
