@@ -1,6 +1,6 @@
 -- To be no dearer is what its test tells, and an order.
 use Rattle.std.proofs.Common.{◌≡◌, true, arith, ℤ}
-use Rattle.std.specs.Prelude.{◌≤ℤ◌, int_le}
+use Rattle.std.specs.Prelude.{◌+ℤ◌, ◌≤ℤ◌, int_le}
 use Rattle.std.specs.Int.Signed.{≤ℤ_refl}
 use Rattle.std.proofs.lemmas.Int.{ints}
 use Rattle.std.proofs.lemmas.Bool.{and_parts, and_from}
@@ -28,3 +28,17 @@ no_dearer-trans a b c p q = record {
   where
     through : (x y z : ℤ) → x ≤ℤ y → y ≤ℤ z → x ≤ℤ z
     through x y z p q = omega (arith, ints, p, q)
+
+-- what is no dearer stays so where as much was paid before both
+pub no_dearer-added : (before : ℤ) (a b : Spent) → IsNoDearer a b →
+    IsNoDearer (record a { paid = before +ℤ a.paid }) (record b { paid = before +ℤ b.paid })
+no_dearer-added before a b less = record {
+  paid = added a.paid b.paid less.paid;
+  price = with_held a.paid a.held b.paid b.held less.price;
+}
+  where
+    added : (x y : ℤ) → x ≤ℤ y → (before +ℤ x) ≤ℤ (before +ℤ y)
+    added x y le = omega (arith, ints, le)
+
+    with_held : (x h y k : ℤ) → (x +ℤ h) ≤ℤ (y +ℤ k) → ((before +ℤ x) +ℤ h) ≤ℤ ((before +ℤ y) +ℤ k)
+    with_held x h y k le = omega (arith, ints, le)
