@@ -8,3 +8,4 @@ pub mod MarkLaws
 pub mod ReachLaws
 pub mod ServedLaws
 pub mod SpanLaws
+pub mod StopLaws

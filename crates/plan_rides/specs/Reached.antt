@@ -1,5 +1,7 @@
 -- Positions of patterns that a traveller gets to, and the rides from there.
 use Rattle.std.specs.Prelude.{◌≡◌, ◌⊎◌, ⊤, ℕ, true, List, [], Contains, Option, None, Some, IfSome, ℤ, pos, ◌+ℤ◌, ◌≤ℤ◌}
+use Rattle.std.specs.List.Sorted.{IsSortedByKey}
+use Rattle.std.specs.Ordering.{nat_cmp, int_cmp, ordering_then}
 use Rattle.feed_rows.specs.declared.journeys.Query.{Query}
 use Rattle.feed_rows.specs.declared.journeys.Ride.{Ride}
 use Rattle.feed_rows.specs.declared.journeys.RideFacts.{RideFacts}
@@ -99,3 +101,15 @@ none_kept = record { of = None; rides = [] }
 -- the rides are those from the position, where there is one
 abbrev pub AreKept : Positioned → CutoffOf → Kept → Type 0
 AreKept me latest kept = IfSome kept.of (λ of. HoldsFrom me latest of kept.rides)
+
+-- ---- the order of positions
+
+-- by what positions are put in order: the pattern, the place there, and when one gets there
+abbrev pub order_key : Reached → ℕ × ℕ × ℤ
+order_key reached = (reached.serving.pattern, reached.serving.position, reached.earliest.0)
+
+-- so these positions stand
+abbrev pub ArePutInOrder : List Reached → Type 0
+ArePutInOrder list =
+    IsSortedByKey order_key
+    (λ x y. ordering_then (ordering_then (nat_cmp x.0 y.0) (nat_cmp x.1 y.1)) (int_cmp x.2 y.2)) list

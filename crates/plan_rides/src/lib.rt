@@ -18,7 +18,7 @@ pub use caught::CaughtRide;
 pub use cutoffs::{Cutoff, is_early};
 pub use held::SpanRuns;
 pub use kept::KeptRides;
-pub use positions::{Positions, Reached, Traveller};
+pub use positions::{Positions, Reached, Traveller, departs_since, put_in_order};
 pub use rides::Rides;
 pub use scope::{Scope, deadline};
 pub use spans::Spans;

@@ -1,5 +1,6 @@
 //! Where riders may board the runs of a query's patterns, and which rides they can catch there.
-ghost use Rattle.std.specs.Prelude.{◌≡◌, ◌<◌, ◌≤◌, All, IfOk, OnOk, Some, slice_get};
+ghost use Rattle.std.specs.Prelude.{◌≡◌, ◌<◌, ◌≤◌, All, IfOk, OnOk, Some, int_le, slice_get};
+ghost use Rattle.std.specs.List.Sorted.{IsPermutation};
 ghost use Rattle.feed_rows.specs.Calls.{calls_of};
 ghost use Rattle.feed_rows.specs.FeedRows.{FeedRows};
 ghost use Rattle.feed_timetable.specs.Standings.{stand_of};
@@ -8,7 +9,7 @@ ghost use Rattle.plan_rides.specs.Boarding.{AreMarks, MayRide};
 ghost use Rattle.plan_rides.specs.Cutoffs.{AreLastDepartures, cutoff_of};
 ghost use Rattle.plan_rides.specs.Departures.{BoardsAt, IsBy, IsByTo, IsDeparture, Serves, run_with};
 ghost use Rattle.plan_rides.specs.InTime.{HasCaught, IsRight, IsUsualQuery, IsWithinWindow};
-ghost use Rattle.plan_rides.specs.Reached.{AddsFound, AddsReached, IsAny, IsFromReached, positioned};
+ghost use Rattle.plan_rides.specs.Reached.{AddsFound, AddsReached, ArePutInOrder, IsAny, IsFromReached, positioned};
 ghost use Rattle.plan_rides.specs.Served.{AreTimedStops};
 ghost use Rattle.plan_rides.specs.Travelling.{IsBarred};
 ghost use Rattle.transit_base.specs.Limits.{most_time};
@@ -43,6 +44,23 @@ pub struct Reached {
     /// The earliest moment at which they are there.
     pub earliest: Moment,
     pub number: u32,
+}
+
+/// Puts positions in the order of their patterns, of their places there, and of when one gets there: so the rides from a position
+/// that are found first serve for all who get there.
+pub fn put_in_order(reached: &mut Vec<Reached>)
+    ensures moved { IsPermutation reached.old.items reached.new.items }
+    ensures rises { ArePutInOrder reached.new.items }
+{
+    reached.sort_unstable_by_key(|at| (at.serving.pattern, at.serving.position, at.earliest.0));
+}
+
+/// Whether the ride departs no earlier than one gets to the position.
+#[inline(always)]
+pub fn departs_since(caught: &CaughtRide, reached: &Reached) -> bool
+    ensures { result ≡ int_le reached.now.earliest.0 caught.now.facts.departure.0 }
+{
+    reached.earliest.0 <= caught.facts.departure.0
 }
 
 // Adds the ride by the departure that alights at the call.

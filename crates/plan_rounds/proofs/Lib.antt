@@ -12,6 +12,5 @@ pub mod SearchLaws
 pub mod SourceLaws
 pub mod SettledLaws
 pub mod SpanLaws
-pub mod StopLaws
 pub mod UsefulLaws
 pub mod WholeLaws

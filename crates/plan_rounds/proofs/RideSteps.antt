@@ -30,7 +30,7 @@ use Rattle.plan_rounds.specs.declared.search.Source.{Source}
 use Rattle.round_labels.specs.Labels.{IsBounded, facts_of, stand_of_label, started, went_on}
 use Rattle.plan_rounds.specs.Sources.{IsSource, StepsByFirst, LeadsByFirst}
 use Rattle.plan_rounds.specs.Stores.{StepsBy, IsStartAmong, round_search}
-use Rattle.plan_rounds.proofs.StopLaws.{stands_inside}
+use Rattle.plan_rides.proofs.StopLaws.{stands_inside}
 use Rattle.search_laws.specs.Stores.{IsFresh, IsUncut}
 
 -- ---- rides

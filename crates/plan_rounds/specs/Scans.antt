@@ -1,7 +1,5 @@
 -- How a round goes on from its labels: by the positions that they reach.
 use Rattle.std.specs.Prelude.{◌≡◌, ◌⊎◌, ℕ, ◌+◌, ◌<◌, ◌^◌, List, [], ◌∷◌, ◌++◌, Contains, Option, Some, None, length, slice_get, false, true, ℤ, ◌≤ℤ◌, ◌<ℤ◌}
-use Rattle.std.specs.List.Sorted.{IsSortedByKey}
-use Rattle.std.specs.Ordering.{nat_cmp, int_cmp, ordering_then}
 use Rattle.feed_rows.specs.declared.journeys.Query.{Query}
 use Rattle.feed_rows.specs.declared.journeys.RideFacts.{RideFacts}
 use Rattle.feed_rows.specs.FeedRows.{FeedRows}
@@ -51,16 +49,6 @@ pub record IsRound (task : Searched) (round : Round) : Type 0 where
   pub ended : HasEnds task.feed task.query round.labels.now round.finals.now
 
 -- ---- positions that are reached
-
--- by what positions are put in order: the pattern, the place there, and when one gets there
-abbrev pub order_key : Reached → ℕ × ℕ × ℤ
-order_key reached = (reached.serving.pattern, reached.serving.position, reached.earliest.0)
-
--- so these positions stand
-abbrev pub AreInOrder : List Reached → Type 0
-AreInOrder list =
-    IsSortedByKey order_key
-    (λ x y. ordering_then (ordering_then (nat_cmp x.0 y.0) (nat_cmp x.1 y.1)) (int_cmp x.2 y.2)) list
 
 -- one step leads from the label there, by a ride that boards at the position
 abbrev pub StepsAt : Searched → Positioned → Label → Reached → LabelFacts → Type 0

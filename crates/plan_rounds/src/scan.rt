@@ -1,6 +1,5 @@
 //! How a round goes on from its labels: pattern by pattern, and position by position.
-ghost use Rattle.std.specs.Prelude.{◌≡◌, ◌⊎◌, ◌+◌, ◌≤ℤ◌, ◌<ℤ◌, ◌++◌, ◌∷◌, [], false, true, List, None, Option, Some, int_le, length, slice_get, OnOk, ℤ};
-ghost use Rattle.std.specs.List.Sorted.{IsPermutation};
+ghost use Rattle.std.specs.Prelude.{◌≡◌, ◌⊎◌, ◌+◌, ◌≤ℤ◌, ◌<ℤ◌, ◌++◌, ◌∷◌, [], false, true, List, None, Option, Some, length, slice_get, OnOk, ℤ};
 ghost use Rattle.plan_rides.specs.Cutoffs.{AreLastDepartures, cutoff_of, is_early};
 ghost use Rattle.plan_rides.specs.InTime.{IsWithinWindow, deadline};
 ghost use Rattle.plan_rides.specs.Reached.{AreKept, IsReachedFrom};
@@ -9,7 +8,7 @@ ghost use Rattle.round_table.specs.declared.finals.Final.{Final};
 ghost use Rattle.plan_rounds.specs.Bounds.{AreUntilsOf, IsFairBy, IsUntil};
 ghost use Rattle.plan_rounds.specs.Legs.{AreKinds, HasKinds};
 ghost use Rattle.plan_rounds.specs.Moves.{HasFares};
-ghost use Rattle.plan_rounds.specs.Scans.{AddsLabel, AddsMarks, AreInOrder, AreMarks, IsFairIn, IsLeftOut, IsMarked, IsRound, ServeFor, SpreadsIn, StepsAt, StepsFromPosition};
+ghost use Rattle.plan_rounds.specs.Scans.{AddsLabel, AddsMarks, AreMarks, IsFairIn, IsLeftOut, IsMarked, IsRound, ServeFor, SpreadsIn, StepsAt, StepsFromPosition};
 ghost use Rattle.plan_rounds.specs.Settled.{ArePassed, AreSettled};
 ghost use Rattle.plan_rounds.specs.Sources.{IsSource, SpreadsFrom, StepsByFirst};
 ghost use Rattle.round_labels.specs.declared.label.Label.{Label};
@@ -19,7 +18,9 @@ ghost use Rattle.search_laws.specs.Stores.{StepsFrom};
 use crate::bounds::Until;
 use crate::legs::{KeptLegs, RideLegs};
 use crate::search::{Found, Room, Search, Source};
-use plan_rides::{CaughtRide, Cutoff, Positions, Reached, Traveller, is_early};
+use plan_rides::{
+    CaughtRide, Cutoff, Positions, Reached, Traveller, departs_since, is_early, put_in_order,
+};
 use ride_kinds::LegKinds;
 use round_labels::{LabelList, StopBags};
 use round_table::Final;
@@ -76,22 +77,6 @@ impl Marks {
 pub struct Cutoffs<'p> {
     pub(crate) latest: Cutoff<'p>,
     pub(crate) lasts: Cutoff<'p>,
-}
-
-/// Puts positions in the order of their patterns, of their places there, and of when one gets there: so the rides from a position
-/// that are found first serve for all who get there.
-fn put_in_order(reached: &mut Vec<Reached>)
-    ensures moved { IsPermutation reached.old.items reached.new.items }
-    ensures rises { AreInOrder reached.new.items }
-{
-    reached.sort_unstable_by_key(|at| (at.serving.pattern, at.serving.position, at.earliest.0));
-}
-
-/// Whether the ride departs no earlier than one gets to the position.
-fn departs_since(caught: &CaughtRide, reached: &Reached) -> bool
-    ensures { result ≡ int_le reached.now.earliest.0 caught.now.facts.departure.0 }
-{
-    reached.earliest.0 <= caught.facts.departure.0
 }
 
 /// Whether the ride arrives early enough.

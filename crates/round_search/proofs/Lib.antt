@@ -1,7 +1,6 @@
 pub mod LawfulLaws
 pub mod TakeLaws
 pub mod BagLaws
-pub mod StopLaws
 pub mod CutLaws
 pub mod RideLaws
 pub mod SourceLaws

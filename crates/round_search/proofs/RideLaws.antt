@@ -32,7 +32,7 @@ use Rattle.round_search.specs.Steps.{IsCaughtFrom, IsStep, facts_after, stand_of
 use Rattle.round_search.specs.Terms.{AreEnough, Covers, Facts, IsLawful, Terms}
 use Rattle.round_search.proofs.CutLaws.{cut_below}
 use Rattle.round_search.proofs.LawfulLaws.{covers-trans}
-use Rattle.round_search.proofs.StopLaws.{stands_inside}
+use Rattle.plan_rides.proofs.StopLaws.{stands_inside}
 
 module _ {F M : Type 0} (at_most : F → F → Bool) (t : Terms F M) (laws : OrderLaws at_most) (lawful : IsLawful at_most t) (feed : FeedRows)
     (query : Query) where

@@ -1,7 +1,5 @@
 -- How a round goes on from its labels: by the positions that they reach.
-use Rattle.std.specs.Prelude.{◌≡◌, ◌⊎◌, ℕ, ◌+◌, ◌<◌, ◌≤◌, ◌^◌, Bool, List, Contains, Some, length, slice_get, ℤ}
-use Rattle.std.specs.List.Sorted.{IsSortedByKey}
-use Rattle.std.specs.Ordering.{nat_cmp, int_cmp, ordering_then}
+use Rattle.std.specs.Prelude.{◌≡◌, ◌⊎◌, ℕ, ◌+◌, ◌<◌, ◌≤◌, ◌^◌, Bool, List, Contains, Some, length, slice_get}
 use Rattle.feed_rows.specs.declared.journeys.Query.{Query}
 use Rattle.feed_rows.specs.FeedRows.{FeedRows}
 use Rattle.feed_rows.specs.SoundFeed.{IsSoundFeed}
@@ -46,16 +44,6 @@ SpreadsIn at_most t feed query round Part old new =
     Spreads (search_of at_most t feed query) (IsCut t round.finals.now) round.labels.now (round.count + 1) Part old new
 
 -- ---- positions that are reached
-
--- by what positions are put in order: the pattern, the place there, and when one gets there
-abbrev pub order_key : Reached → ℕ × ℕ × ℤ
-order_key reached = (reached.serving.pattern, reached.serving.position, reached.earliest.0)
-
--- so these positions stand
-abbrev pub AreInOrder : List Reached → Type 0
-AreInOrder list =
-    IsSortedByKey order_key
-    (λ x y. ordering_then (ordering_then (nat_cmp x.0 y.0) (nat_cmp x.1 y.1)) (int_cmp x.2 y.2)) list
 
 -- one step leads from such facts there, by a ride that boards at the position
 abbrev pub StepsAt : {F M : Type 0} → Terms F M → FeedRows → Query → Positioned → Facts F → Reached → Facts F → Type 0

@@ -1,13 +1,12 @@
 //! How a round goes on from its labels: pattern by pattern, and position by position.
-ghost use Rattle.std.specs.Prelude.{◌≡◌, [], OnOk, int_le, length};
-ghost use Rattle.std.specs.List.Sorted.{IsPermutation};
+ghost use Rattle.std.specs.Prelude.{◌≡◌, [], OnOk, length};
 ghost use Rattle.plan_rides.specs.Cutoffs.{cutoff_by, cutoff_of};
 ghost use Rattle.plan_rides.specs.InTime.{deadline};
 ghost use Rattle.plan_rides.specs.Reached.{AreKept, HoldsFrom, IsReachedFrom, none_kept};
 ghost use Rattle.search_laws.specs.Stores.{StepsFrom};
 ghost use Rattle.round_search.specs.Bags.{in_bags};
 ghost use Rattle.round_search.specs.Labels.{facts_of};
-ghost use Rattle.round_search.specs.Scans.{AddsMarks, AreInOrder, AreReached, IsMarked, IsRound, SpreadsIn, StepsAt, StepsFromPosition};
+ghost use Rattle.round_search.specs.Scans.{AddsMarks, AreReached, IsMarked, IsRound, SpreadsIn, StepsAt, StepsFromPosition};
 ghost use Rattle.round_search.specs.Searches.{IsSource, SpreadsFrom, search_of};
 ghost use Rattle.round_search.specs.Steps.{stand_of_facts};
 
@@ -17,7 +16,10 @@ use crate::label::Label;
 use crate::search::{Search, Source, standing};
 use crate::tariff::Tariff;
 use pareto_front::Front;
-use plan_rides::{CaughtRide, Cutoff, KeptRides, Positions, Reached, Traveller, deadline};
+use plan_rides::{
+    CaughtRide, Cutoff, KeptRides, Positions, Reached, Traveller, deadline, departs_since,
+    put_in_order,
+};
 use std::alloc::AllocError;
 
 /// What a round goes on from: where riders may board, the labels, what is found by now, from which number on the labels are the last,
@@ -48,22 +50,6 @@ impl<M: Copy> Drop for Room<M> {
             moves: _,
         } = self;
     }
-}
-
-/// Puts positions in the order of their patterns, of their places there, and of when one gets there: so the rides from a position
-/// that are found first serve for all who get there.
-fn put_in_order(reached: &mut Vec<Reached>)
-    ensures moved { IsPermutation reached.old.items reached.new.items }
-    ensures rises { AreInOrder reached.new.items }
-{
-    reached.sort_unstable_by_key(|at| (at.serving.pattern, at.serving.position, at.earliest.0));
-}
-
-/// Whether the ride departs no earlier than one gets to the position.
-fn departs_since(caught: &CaughtRide, reached: &Reached) -> bool
-    ensures { result ≡ int_le reached.now.earliest.0 caught.now.facts.departure.0 }
-{
-    reached.earliest.0 <= caught.facts.departure.0
 }
 
 impl<'s, 'l, T: Tariff> Search<'s, 'l, T> {

@@ -5,7 +5,7 @@ use Rattle.round_search.specs.Bags.{in_bags}
 use Rattle.round_search.specs.Searches.{Asked, IsNever, search_of}
 use Rattle.round_search.proofs.LawfulLaws.{cover_test, ways_lawful}
 use Rattle.round_search.proofs.RideLaws.{fresh_start, start_is, started}
-use Rattle.round_search.proofs.StopLaws.{stands_inside}
+use Rattle.plan_rides.proofs.StopLaws.{stands_inside}
 use Rattle.round_search.proofs.search.Search.offer_start.Goals as goal
 
 pub offer-requires : goal.offer-requires
