@@ -22,6 +22,8 @@ use Rattle.feed_rows.specs.LeastPrices.{IsLeastPriceOfLegs, AreUncoveredLegs}
 use Rattle.plain_laws.specs.Plain.{when}
 use Rattle.plain_laws.proofs.Laws.{slice_get-append_left, slice_get-append_right, Contains-slice_get, slice_get-Contains, Contains-map, map-tells, list_any_tells, list_any-place, All-from}
 use Rattle.feed_laws.proofs.StandLaws.{places_of_paid}
+use Rattle.fare_laws.specs.Amounts.{spent_by}
+use Rattle.fare_laws.proofs.AmountLaws.{no_dearer-added}
 use Rattle.fare_laws.proofs.LongerLaws.{IsMoveAfter, extends_by, made_by}
 use Rattle.fare_laws.specs.SmallMoves.{IsSmall}
 use Rattle.fare_laws.proofs.LeadLaws.{leads_too}
@@ -82,18 +84,11 @@ adds_by_moves feed buyer leg state held paid number moves old new enough gathers
       (Contains-map (way_by paid number) moves lesser.0 lesser.1))
       (record {
         state = lesser.2.state;
-        paid = added paid lesser.0.paid.0 move.paid.0 lesser.2.paid;
-        cost = added_both paid lesser.0.paid.0 lesser.0.held.0 move.paid.0 move.held.0 lesser.2.price;
+        spent = no_dearer-added paid (spent_by lesser.0) (spent_by move) lesser.2.cost;
       });
   from = λ way at. by way (All-contains (λ x. Contains old x ⊎ Contains (map (way_by paid number) moves) x) new way gathers.from at);
 }
   where
-    added : (p x y : ℤ) → x ≤ℤ y → (p +ℤ x) ≤ℤ (p +ℤ y)
-    added p x y le = omega (arith, ints, le)
-
-    added_both : (p x h y k : ℤ) → (x +ℤ h) ≤ℤ (y +ℤ k) → ((p +ℤ x) +ℤ h) ≤ℤ ((p +ℤ y) +ℤ k)
-    added_both p x h y k le = omega (arith, ints, le)
-
     made : (way : Way) → Contains (map (way_by paid number) moves) way → IsMadeAfter feed buyer leg state held paid number way
     made way at =
         let found = map-tells (way_by paid number) moves way at in
@@ -203,8 +198,10 @@ module _ (feed : FeedRows) (buyer : Buyer) (legs : List LegFacts) (leg : LegFact
         way = has.member;
         is_in = has.is_in;
         state = extends.state ∙ ap Some (sym (has.below.state ∙ state));
-        paid = no_more _ _ _ _ has.below.paid less extends.paid;
-        cost = no_more_held _ _ _ _ _ _ _ has.below.cost less extends.paid extends.held held;
+        spent = record {
+          paid = no_more _ _ _ _ has.below.spent.paid less extends.paid;
+          price = no_more_held _ _ _ _ _ _ _ has.below.spent.price less extends.paid extends.held held;
+        };
       }
     where
       no_more : (a b c d : ℤ) → a ≤ℤ b → b ≤ℤ c → d ≡ c → a ≤ℤ d
@@ -313,7 +310,7 @@ module _ (feed : FeedRows) (buyer : Buyer) (legs : List LegFacts) (leg : LegFact
       subst (λ (s : Option FareState). move_after feed buyer s (held_amount feed made.choice) leg made.move ≡ Some made.move) has.state made.is in
       let too =
       leads_too feed buyer (Some way.step.state) way.paid.0 way.step.held.0 (paid_amount feed made.choice) (held_amount feed made.choice) leg made.move
-      has.paid has.cost from_state in
+      has.spent.paid has.spent.price from_state in
       subst (HasNoDearer feed (legs ++ leg ∷ []) new) (sym made.same)
       (no_dearer_after feed buyer legs leg made.choice way.paid.0 (length steps + at.0) too.move made.move new extends
       (next.each at.0 way too.move (slice_get_within ways at.0 way at.1) at.1 too.is) too.state_is (ap (λ (h : Money). h.0) too.held_is) too.paid_less)
@@ -345,7 +342,7 @@ module _ (feed : FeedRows) (buyer : Buyer) (legs : List LegFacts) (steps ways : 
             let parts = cond_some (is_fare_choice feed legs other buyer) (fare_sum feed other) sum is in
             let has = are.complete other parts.0 in
             chain _ _ _ _ _ (All-contains (λ (w : Way). cost way ≤ℤ cost w) ways has.way cheapest has.is_in)
-            has.cost (both_parts other) parts.1;
+            has.spent.price (both_parts other) parts.1;
       }
     where
       sum_of : (p q h k : ℤ) → p ≡ q → h ≡ k → p +ℤ h ≡ q +ℤ k

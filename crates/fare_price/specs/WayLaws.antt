@@ -1,53 +1,37 @@
 -- To be as good as another way is reflexive and transitive.
-use Rattle.std.specs.Prelude.{◌≡◌, true, ℤ, ◌≤ℤ◌, int_le}
-use Rattle.std.proofs.Common.{refl, ◌∙◌, arith}
-use Rattle.std.proofs.lemmas.Int.{ints}
+use Rattle.std.specs.Prelude.{◌≡◌, true}
+use Rattle.std.proofs.Common.{refl, ◌∙◌}
 use Rattle.std.proofs.lemmas.Bool.{and_parts, and_from}
 use Rattle.feed_rows.specs.SameStates.{same_parts}
 use Rattle.feed_laws.proofs.SameStates.{same_parts_decides}
+use Rattle.fare_laws.specs.Amounts.{is_no_dearer}
+use Rattle.fare_laws.proofs.AmountLaws.{no_dearer-holds, no_dearer-itself, no_dearer-tells, no_dearer-trans}
 use Rattle.label_order.specs.Labels.{OrderLaws}
 use Rattle.fare_price.specs.declared.ways.Way.{Way}
-use Rattle.fare_price.specs.Ways.{cost, IsBelow, is_as_good}
-
-le_true : (x y : ℤ) → int_le x y ≡ true → x ≤ℤ y
-le_true x y h = grind (arith, ints)
-
-true_le : (x y : ℤ) → x ≤ℤ y → int_le x y ≡ true
-true_le x y h = grind (arith, ints)
-
-le_trans : (x y z : ℤ) → x ≤ℤ y → y ≤ℤ z → x ≤ℤ z
-le_trans x y z p q = omega (arith, ints, p, q)
-
-le_itself : (x : ℤ) → x ≤ℤ x
-le_itself x = omega (arith, ints)
+use Rattle.fare_price.specs.Ways.{spent_on, IsBelow, is_as_good}
 
 -- what the test tells
 pub is_as_good-tells : (a b : Way) → is_as_good a b ≡ true → IsBelow a b
 unfolding is_as_good
 is_as_good-tells a b h =
-    let rest = and_parts _ (same_parts a.step.state b.step.state) h in
-    let both = and_parts (int_le a.paid.0 b.paid.0) _ rest.0 in
+    let both = and_parts (is_no_dearer (spent_on a) (spent_on b)) (same_parts a.step.state b.step.state) h in
     record {
-      state = (same_parts_decides a.step.state b.step.state).0 rest.1;
-      paid = le_true a.paid.0 b.paid.0 both.0;
-      cost = le_true (cost a) (cost b) both.1;
+      state = (same_parts_decides a.step.state b.step.state).0 both.1;
+      spent = no_dearer-tells (spent_on a) (spent_on b) both.0;
     }
 
 pub is_as_good-from : (a b : Way) → IsBelow a b → is_as_good a b ≡ true
 unfolding is_as_good
 is_as_good-from a b below =
-    and_from _ _
-    (and_from _ _ (true_le a.paid.0 b.paid.0 below.paid) (true_le (cost a) (cost b) below.cost))
-    ((same_parts_decides a.step.state b.step.state).1 below.state)
+    and_from _ _ (no_dearer-holds (spent_on a) (spent_on b) below.spent) ((same_parts_decides a.step.state b.step.state).1 below.state)
 
 below_itself : (a : Way) → IsBelow a a
-below_itself a = record { state = refl; paid = le_itself a.paid.0; cost = le_itself (cost a) }
+below_itself a = record { state = refl; spent = no_dearer-itself (spent_on a) }
 
 pub below_trans : (a b c : Way) → IsBelow a b → IsBelow b c → IsBelow a c
 below_trans a b c p q = record {
   state = p.state ∙ q.state;
-  paid = le_trans a.paid.0 b.paid.0 c.paid.0 p.paid q.paid;
-  cost = le_trans (cost a) (cost b) (cost c) p.cost q.cost;
+  spent = no_dearer-trans (spent_on a) (spent_on b) (spent_on c) p.spent q.spent;
 }
 
 pub way_laws : OrderLaws is_as_good

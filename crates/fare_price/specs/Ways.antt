@@ -1,6 +1,6 @@
 -- Ways to pay legs: the moves that lead to them, the choices that their steps make, and what a search keeps true of
 -- them.
-use Rattle.std.specs.Prelude.{◌≡◌, ℕ, zero, suc, ◌+◌, ◌*◌, ◌^◌, ◌<◌, ◌≤◌, ◌⊎◌, Bool, true, ◌&&◌, List, [], Option, Some, None, ℤ, pos, ◌+ℤ◌, ◌≤ℤ◌, int_le, nat_abs, slice_get, Contains}
+use Rattle.std.specs.Prelude.{◌≡◌, ℕ, zero, suc, ◌+◌, ◌*◌, ◌^◌, ◌<◌, ◌≤◌, ◌⊎◌, Bool, true, ◌&&◌, List, [], Option, Some, None, ℤ, pos, ◌+ℤ◌, nat_abs, slice_get, Contains}
 use Rattle.std.specs.Option.{option_map_or}
 use Rattle.feed_rows.specs.declared.journeys.Buyer.{Buyer}
 use Rattle.feed_rows.specs.declared.fares.Choice.{Choice}
@@ -14,24 +14,28 @@ use Rattle.feed_rows.specs.FareStates.{held_amount, paid_amount, fare_state}
 use Rattle.feed_rows.specs.SameStates.{same_parts}
 use Rattle.feed_rows.specs.FareSteps.{move_after}
 use Rattle.plain_laws.specs.Lesser.{lesser_by}
+use Rattle.fare_laws.specs.Amounts.{Spent, IsNoDearer, is_no_dearer, price}
 use Rattle.label_bag.specs.Bags.{covers}
 use Rattle.fare_price.specs.declared.ways.Way.{Way}
 
 -- ---- which way is as good as another
 
+-- what was paid for the legs, and what is held
+abbrev pub spent_on : Way → Spent
+spent_on way = record { paid = way.paid.0; held = way.step.held.0 }
+
 -- what the legs cost
 abbrev pub cost : Way → ℤ
-cost way = way.paid.0 +ℤ way.step.held.0
+cost way = price (spent_on way)
 
--- the one leads to the state of the other, has paid no more and costs no more
+-- the one leads to the state of the other, and is no dearer
 pub record IsBelow (a b : Way) : Type 0 where
   pub state : a.step.state ≡ b.step.state
-  pub paid : a.paid.0 ≤ℤ b.paid.0
-  pub cost : cost a ≤ℤ cost b
+  pub spent : IsNoDearer (spent_on a) (spent_on b)
 
 -- the test of that
 unfoldable pub is_as_good : Way → Way → Bool
-is_as_good a b = int_le a.paid.0 b.paid.0 && int_le (cost a) (cost b) && same_parts a.step.state b.step.state
+is_as_good a b = is_no_dearer (spent_on a) (spent_on b) && same_parts a.step.state b.step.state
 
 -- ---- what moves lead to
 
@@ -119,13 +123,12 @@ pub record IsReal (feed : FeedRows) (buyer : Buyer) (legs : List LegFacts) (step
   pub of : IsStateOf feed legs (choice_of steps n way) way
   pub bounded : IsBounded (n + 1) way
 
--- some way leads to the state that the choice leads to, has paid no more and costs no more
+-- some way leads to the state that the choice leads to, and is no dearer
 pub record HasNoDearer (feed : FeedRows) (legs : List LegFacts) (ways : List Way) (choice : Choice) : Type 0 where
   pub way : Way
   pub is_in : Contains ways way
   pub state : fare_state feed legs choice ≡ Some way.step.state
-  pub paid : way.paid.0 ≤ℤ paid_amount feed choice
-  pub cost : cost way ≤ℤ (paid_amount feed choice +ℤ held_amount feed choice)
+  pub spent : IsNoDearer (spent_on way) (record { paid = paid_amount feed choice; held = held_amount feed choice })
 
 -- each way pays n + 1 legs, and beside each choice that pays them stands such a way
 pub record AreWaysOf (feed : FeedRows) (buyer : Buyer) (legs : List LegFacts) (steps : List Way) (n : ℕ)

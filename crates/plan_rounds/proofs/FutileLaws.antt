@@ -1,8 +1,7 @@
 -- What a search needn't look at: whatever it leads to is found already.
-use Rattle.std.proofs.Common.{◌≡◌, length, subst, ◌≤◌, ◌+◌, sym, List, arith, ℕ, ap, true, ◌∙◌, ◌⊎◌, inl, inr, ⊎_elim, ℤ, ◌+ℤ◌, ◌≤ℤ◌, ◌<◌, refl, Some}
-use Rattle.std.specs.Prelude.{Bool, ◌||◌, [], ◌∷◌, Contains, int_le, slice_get, false}
+use Rattle.std.proofs.Common.{◌≡◌, length, subst, ◌≤◌, ◌+◌, sym, List, arith, ℕ, ap, true, ◌∙◌, ◌⊎◌, inl, inr, ⊎_elim, ℤ, ◌<◌, refl, Some}
+use Rattle.std.specs.Prelude.{Bool, ◌||◌, [], ◌∷◌, Contains, slice_get, false}
 use Rattle.std.specs.List.{list_any}
-use Rattle.std.proofs.lemmas.Int.{ints}
 use Rattle.std.proofs.lemmas.Bool.{both_ways, cases_lt, and_parts, ne_eqb}
 use Rattle.std.proofs.lemmas.List.Folds.{list_any-from_Any}
 use Rattle.std.proofs.lemmas.Option.{same_Some, slice_get_within}
@@ -15,9 +14,11 @@ use Rattle.feed_rows.specs.Legs.{leg_facts}
 use Rattle.feed_rows.specs.ParetoTriples.{at_most}
 use Rattle.feed_rows.specs.PartialJourneys.{LabelFacts}
 use Rattle.feed_rows.specs.SoundFeed.{IsSoundFeed}
+use Rattle.fare_laws.specs.Amounts.{is_no_dearer, spent_by}
+use Rattle.fare_laws.proofs.AmountLaws.{no_dearer-added, no_dearer-tells}
 use Rattle.fare_automaton.specs.Fewest.{IsLesserMove}
 use Rattle.feed_laws.proofs.ParetoLaws.{at_most-refl, at_most-trans}
-use Rattle.plain_laws.proofs.Laws.{list_any_tells, int_le-true, slice_get-Contains}
+use Rattle.plain_laws.proofs.Laws.{list_any_tells, slice_get-Contains}
 use Rattle.plan_rides.specs.InTime.{IsRight}
 use Rattle.plan_rides.specs.declared.caught.CaughtRide.{CaughtRide}
 use Rattle.search_laws.specs.Cuts.{MayLack}
@@ -178,30 +179,21 @@ module _ (task : Searched) (finals : List Final) (x : Label) (caught : CaughtRid
 lesser_of : (m n : Move) → betters m n ≡ true → IsLesserMove m n
 unfolding betters
 lesser_of m n is =
-    let both = and_parts _ (same_parts m.state n.state) is in
-    let costs = and_parts (int_le m.paid.0 n.paid.0) _ both.0 in
-    record {
-      state = same_parts-equal m.state n.state both.1;
-      paid = int_le-true _ _ costs.0;
-      price = int_le-true _ _ costs.1;
-    }
+    let both = and_parts (is_no_dearer (spent_by m) (spent_by n)) (same_parts m.state n.state) is in
+    record { state = same_parts-equal m.state n.state both.1; cost = no_dearer-tells (spent_by m) (spent_by n) both.0 }
 
 -- and what is no dearer leads to facts that cover where that leads
 lesser_covers : (a : LabelFacts) (facts : RideFacts) (m n : Move) → IsLesserMove m n → Covers (facts_after a facts m) (facts_after a facts n)
-lesser_covers a facts m n less = record {
-  stop = refl;
-  arrival = as_much facts.arrival.0;
-  rides = omega arith;
-  paid = more a.paid m.paid.0 n.paid.0 less.paid;
-  price = with_held a.paid m.paid.0 n.paid.0 m.held.0 n.held.0 less.price;
-  state = ap Some less.state;
-}
-  where
-    more : (p x y : ℤ) → x ≤ℤ y → (p +ℤ x) ≤ℤ (p +ℤ y)
-    more p x y le = omega (arith, ints, le)
-
-    with_held : (p x y h k : ℤ) → (x +ℤ h) ≤ℤ (y +ℤ k) → (p +ℤ x +ℤ h) ≤ℤ (p +ℤ y +ℤ k)
-    with_held p x y h k le = omega (arith, ints, le)
+lesser_covers a facts m n less =
+    let spent = no_dearer-added a.paid (spent_by m) (spent_by n) less.cost in
+    record {
+      stop = refl;
+      arrival = as_much facts.arrival.0;
+      rides = omega arith;
+      paid = spent.paid;
+      price = spent.price;
+      state = ap Some less.state;
+    }
 
 -- facts are held below or lacking where those are that cover them
 pub done_below : (task : Searched) (finals : List Final) (new : List Label) (a b : LabelFacts) → IsStated a → IsStated b → Covers a b →

@@ -1,9 +1,10 @@
 -- The moves of a leg after a label.
-use Rattle.std.specs.Prelude.{◌≡◌, ℕ, ◌<◌, Bool, ◌&&◌, int_le, ◌+ℤ◌, List, slice_get, All, Some, IsTrue}
+use Rattle.std.specs.Prelude.{◌≡◌, ℕ, ◌<◌, Bool, ◌&&◌, List, slice_get, All, Some, IsTrue}
 use Rattle.feed_rows.specs.declared.journeys.LegFacts.{LegFacts}
 use Rattle.feed_rows.specs.declared.journeys.Query.{Query}
 use Rattle.feed_rows.specs.declared.states.Move.{Move}
 use Rattle.feed_rows.specs.FeedRows.{FeedRows}
+use Rattle.fare_laws.specs.Amounts.{is_no_dearer, spent_by}
 use Rattle.fare_automaton.specs.Fewest.{AreEnoughMoves}
 use Rattle.fare_automaton.specs.Known.{KnownPicks}
 use Rattle.fare_automaton.specs.Terms.{terms}
@@ -23,7 +24,7 @@ HasFares task known = known.terms ≡ terms task.feed task.query.buyer
 
 -- the one leads to the same state of fares as the other, and neither pays more nor costs more
 unfoldable pub betters : Move → Move → Bool
-betters a b = int_le a.paid.0 b.paid.0 && int_le (a.paid.0 +ℤ a.held.0) (b.paid.0 +ℤ b.held.0) && same_parts a.state b.state
+betters a b = is_no_dearer (spent_by a) (spent_by b) && same_parts a.state b.state
 
 -- a move before the one with this number is as good as it
 pub record HasBetter (moves : List Move) (number : ℕ) : Type 0 where

@@ -17,7 +17,7 @@ use Rattle.round_labels.specs.declared.label.Label.{Label}
 use Rattle.round_labels.specs.declared.label_class.LabelClass.{LabelClass}
 use Rattle.round_labels.specs.declared.last_move.LastMove.{LastMove}
 use Rattle.round_labels.specs.CoverLaws.{as_good-holds, as_good-tells, cover_laws, covers-holds, covers-tells, kept_laws, same_class-equal}
-use Rattle.round_labels.specs.Kept.{Grows, IsNumbered, comes_no_later, is_as_good, is_no_dearer, move_at, whole, whole_by, wholes}
+use Rattle.round_labels.specs.Kept.{Grows, IsNumbered, comes_no_later, is_as_good, move_at, whole, whole_by, wholes}
 use Rattle.round_labels.specs.Labels.{class_of, covers, same_class}
 use Rattle.round_labels.specs.LastMoves.{same_last}
 use Rattle.round_labels.specs.Bags.{IsBagOf, IsKeptOf}
@@ -152,8 +152,8 @@ good_covers s t a b same good =
       stop = ap (λ (c : LabelClass). c.stop) same;
       arrival = is.arrival;
       rides = is.rides;
-      paid = is.paid;
-      price = is.price;
+      paid = is.spent.paid;
+      price = is.spent.price;
       state = ap (λ (c : LabelClass). c.state) same;
     })
 
@@ -162,12 +162,12 @@ pub covers_good : (s t : Option Move) (a b : KeptLabel) → covers (whole_by s a
     is_as_good a b ≡ true
 covers_good s t a b h =
     let is = covers-tells (whole_by s a) (whole_by t b) h in
-    as_good-holds a b (record { arrival = is.arrival; rides = is.rides; paid = is.paid; price = is.price })
+    as_good-holds a b (record { arrival = is.arrival; rides = is.rides; spent = record { paid = is.paid; price = is.price } })
 
 -- the number of a move makes none better
 pub uncovered_numbered : (members : List KeptLabel) (kept : KeptLabel) (n : ℕ) →
     has_cover is_as_good members kept ≡ false → IsUncovered is_as_good members (record kept { taken = n })
-unfolding is_as_good comes_no_later is_no_dearer
+unfolding is_as_good comes_no_later
 uncovered_numbered members kept n none = uncovered_of is_as_good members kept none
 
 module _ (moves : List LastMove) (class : LabelClass) where

@@ -1,9 +1,8 @@
 -- The laws of labels: to cover is reflexive and transitive, and so is to be as good as another label of the class.
-use Rattle.std.specs.Prelude.{◌≡◌, ℕ, true, ◌==◌, nat_le, Option, ℤ, ◌+ℤ◌, ◌≤ℤ◌, int_le}
-use Rattle.std.proofs.Common.{refl, ◌∙◌, ap, ◌≤◌, arith}
+use Rattle.std.specs.Prelude.{◌≡◌, ℕ, true, ◌==◌, nat_le, Option, ◌≤ℤ◌, int_le}
+use Rattle.std.proofs.Common.{refl, ap, ◌≤◌, arith}
 use Rattle.std.specs.Bool.{Decides}
 use Rattle.std.specs.Cmp.{IsEquivalence, decided}
-use Rattle.std.proofs.lemmas.Int.{ints}
 use Rattle.std.proofs.lemmas.Bool.{and_parts, and_from, eqb-true, eq-eqb}
 use Rattle.std.proofs.lemmas.Bool.Decides.{Decides-and, Decides-eqb, Decides-like, nat_tests}
 use Rattle.label_order.specs.Labels.{OrderLaws}
@@ -12,11 +11,16 @@ use Rattle.feed_rows.specs.declared.states.FareState.{FareState}
 use Rattle.feed_rows.specs.LabelCover.{Covers}
 use Rattle.feed_laws.proofs.SameStates.{same_parts_decides}
 use Rattle.plain_laws.proofs.Decisions.{option_eq_decides}
+use Rattle.plain_laws.proofs.Laws.{int_le-true, le-int_le}
+use Rattle.fare_laws.specs.Amounts.{IsNoDearer, is_no_dearer}
+use Rattle.fare_laws.proofs.AmountLaws.{no_dearer-holds, no_dearer-itself, no_dearer-tells, no_dearer-trans}
+use Rattle.round_laws.proofs.CoverLaws.{covers-trans}
+use Rattle.round_laws.proofs.IntLaws.{as_much, no_more}
 use Rattle.round_labels.specs.declared.kept_label.KeptLabel.{KeptLabel}
 use Rattle.round_labels.specs.declared.label.Label.{Label}
 use Rattle.round_labels.specs.declared.label_class.LabelClass.{LabelClass}
-use Rattle.round_labels.specs.Kept.{comes_no_later, is_as_good, is_no_dearer}
-use Rattle.round_labels.specs.Labels.{facts_of, same_parts, same_state, is_no_later, costs_no_more, covers, class_of, same_class, class_input}
+use Rattle.round_labels.specs.Kept.{comes_no_later, is_as_good, spent_kept}
+use Rattle.round_labels.specs.Labels.{facts_of, same_parts, same_state, is_no_later, spent_of, covers, class_of, same_class, class_input}
 
 -- ---- states and classes
 
@@ -53,12 +57,6 @@ class_input-same a b h = ap class_input (same_class-equal a b h)
 
 -- ---- labels
 
-le_true : (x y : ℤ) → int_le x y ≡ true → x ≤ℤ y
-le_true x y h = grind (arith, ints)
-
-true_le : (x y : ℤ) → x ≤ℤ y → int_le x y ≡ true
-true_le x y h = grind (arith, ints)
-
 few_true : (m n : ℕ) → nat_le m n ≡ true → m ≤ n
 few_true m n h = grind (arith, nat_tests)
 
@@ -67,67 +65,46 @@ true_few m n h = grind (arith, nat_tests)
 
 -- what the test tells
 pub covers-tells : (a b : Label) → covers a b ≡ true → Covers (facts_of a) (facts_of b)
-unfolding covers is_no_later costs_no_more
+unfolding covers is_no_later
 covers-tells a b h =
     let state = and_parts _ (same_state a.state b.state) h in
-    let both = and_parts (is_no_later a b) (costs_no_more a b) state.0 in
-    let costs = and_parts (int_le a.paid.0 b.paid.0) _ both.1 in
+    let both = and_parts (is_no_later a b) (is_no_dearer (spent_of a) (spent_of b)) state.0 in
+    let spent = no_dearer-tells (spent_of a) (spent_of b) both.1 in
     let rides = and_parts _ (nat_le a.rides b.rides) both.0 in
     let when = and_parts _ (int_le a.arrival.0 b.arrival.0) rides.0 in
     record {
       stop = ap (λ (n : ℕ). record { 0 = n }) (eqb-true a.stop.0 b.stop.0 when.0);
-      arrival = le_true _ _ when.1;
+      arrival = int_le-true _ _ when.1;
       rides = few_true _ _ rides.1;
-      paid = le_true _ _ costs.0;
-      price = le_true _ _ costs.1;
+      paid = spent.paid;
+      price = spent.price;
       state = (same_state_decides a.state b.state).0 state.1;
     }
 
 -- and when it holds
 pub covers-holds : (a b : Label) → Covers (facts_of a) (facts_of b) → covers a b ≡ true
-unfolding covers is_no_later costs_no_more
+unfolding covers is_no_later
 covers-holds a b c =
     and_from _ _
     (and_from _ _
     (and_from _ _
-    (and_from _ _ (eq-eqb a.stop.0 b.stop.0 (ap (λ (s : StopId). s.0) c.stop)) (true_le _ _ c.arrival))
+    (and_from _ _ (eq-eqb a.stop.0 b.stop.0 (ap (λ (s : StopId). s.0) c.stop)) (le-int_le _ _ c.arrival))
     (true_few _ _ c.rides))
-    (and_from _ _ (true_le _ _ c.paid) (true_le _ _ c.price)))
+    (no_dearer-holds (spent_of a) (spent_of b) (record { paid = c.paid; price = c.price })))
     ((same_state_decides a.state b.state).1 c.state)
-
-le_trans : (x y z : ℤ) → x ≤ℤ y → y ≤ℤ z → x ≤ℤ z
-le_trans x y z p q = omega (arith, ints, p, q)
-
-le_itself : (x : ℤ) → x ≤ℤ x
-le_itself x = omega (arith, ints)
-
-few_trans : (m n k : ℕ) → m ≤ n → n ≤ k → m ≤ k
-few_trans m n k p q = omega (arith, p, q)
-
-few_itself : (m : ℕ) → m ≤ m
-few_itself m = omega arith
 
 pub cover_laws : OrderLaws covers
 cover_laws = record {
   reflexive = λ a. covers-holds a a (record {
     stop = refl;
-    arrival = le_itself _;
-    rides = few_itself _;
-    paid = le_itself _;
-    price = le_itself _;
+    arrival = as_much _;
+    rides = omega arith;
+    paid = as_much _;
+    price = as_much _;
     state = refl;
   });
   transitive = λ a b c p q.
-      let f = covers-tells a b p in
-      let s = covers-tells b c q in
-      covers-holds a c (record {
-        stop = f.stop ∙ s.stop;
-        arrival = le_trans _ _ _ f.arrival s.arrival;
-        rides = few_trans _ _ _ f.rides s.rides;
-        paid = le_trans _ _ _ f.paid s.paid;
-        price = le_trans _ _ _ f.price s.price;
-        state = f.state ∙ s.state;
-      });
+      covers-holds a c (covers-trans (facts_of a) (facts_of b) (facts_of c) (covers-tells a b p) (covers-tells b c q));
 }
 
 -- what covers a label has its class
@@ -143,45 +120,42 @@ class_covered a b h =
 pub record IsAsGood (a b : KeptLabel) : Type 0 where
   pub arrival : a.arrival.0 ≤ℤ b.arrival.0
   pub rides : a.rides ≤ b.rides
-  pub paid : a.paid.0 ≤ℤ b.paid.0
-  pub price : (a.paid.0 +ℤ a.held.0) ≤ℤ (b.paid.0 +ℤ b.held.0)
+  pub spent : IsNoDearer (spent_kept a) (spent_kept b)
 
 pub as_good-tells : (a b : KeptLabel) → is_as_good a b ≡ true → IsAsGood a b
-unfolding is_as_good comes_no_later is_no_dearer
+unfolding is_as_good comes_no_later
 as_good-tells a b h =
-    let both = and_parts (comes_no_later a b) (is_no_dearer a b) h in
+    let both = and_parts (comes_no_later a b) (is_no_dearer (spent_kept a) (spent_kept b)) h in
     let when = and_parts (int_le a.arrival.0 b.arrival.0) _ both.0 in
-    let costs = and_parts (int_le a.paid.0 b.paid.0) _ both.1 in
     record {
-      arrival = le_true _ _ when.0;
+      arrival = int_le-true _ _ when.0;
       rides = few_true _ _ when.1;
-      paid = le_true _ _ costs.0;
-      price = le_true _ _ costs.1;
+      spent = no_dearer-tells (spent_kept a) (spent_kept b) both.1;
     }
 
 -- and when it holds
 pub as_good-holds : (a b : KeptLabel) → IsAsGood a b → is_as_good a b ≡ true
-unfolding is_as_good comes_no_later is_no_dearer
+unfolding is_as_good comes_no_later
 as_good-holds a b c =
-    and_from _ _ (and_from _ _ (true_le _ _ c.arrival) (true_few _ _ c.rides))
-    (and_from _ _ (true_le _ _ c.paid) (true_le _ _ c.price))
+    and_from _ _ (and_from _ _ (le-int_le _ _ c.arrival) (true_few _ _ c.rides))
+    (no_dearer-holds (spent_kept a) (spent_kept b) c.spent)
 
 pub kept_laws : OrderLaws is_as_good
 kept_laws = record {
   reflexive = λ a. as_good-holds a a (record {
-    arrival = le_itself _;
-    rides = few_itself _;
-    paid = le_itself _;
-    price = le_itself _;
+    arrival = as_much _;
+    rides = omega arith;
+    spent = no_dearer-itself (spent_kept a);
   });
   transitive = λ a b c p q.
       let f = as_good-tells a b p in
       let s = as_good-tells b c q in
+      let less = f.rides in
+      let more = s.rides in
       as_good-holds a c (record {
-        arrival = le_trans _ _ _ f.arrival s.arrival;
-        rides = few_trans _ _ _ f.rides s.rides;
-        paid = le_trans _ _ _ f.paid s.paid;
-        price = le_trans _ _ _ f.price s.price;
+        arrival = no_more _ _ _ f.arrival s.arrival;
+        rides = omega (arith, less, more);
+        spent = no_dearer-trans (spent_kept a) (spent_kept b) (spent_kept c) f.spent s.spent;
       });
 }
 

@@ -1,11 +1,12 @@
 -- Labels as they are kept, in fewer bytes.
-use Rattle.std.specs.Prelude.{◌≡◌, ◌⊎◌, ◌&&◌, ℕ, zero, suc, ◌+◌, ◌-◌, ◌^◌, ◌<◌, Bool, List, length, map, slice_get, nat_le, int_le, Option, Some, None, option_map, option_and_then, pos, negsuc, ◌+ℤ◌, ◌≤ℤ◌}
+use Rattle.std.specs.Prelude.{◌≡◌, ◌⊎◌, ◌&&◌, ℕ, zero, suc, ◌+◌, ◌-◌, ◌^◌, ◌<◌, Bool, List, length, map, slice_get, nat_le, int_le, Option, Some, None, option_map, option_and_then, pos, negsuc, ◌≤ℤ◌}
 use Rattle.transit_base.specs.declared.moments.Moment.{Moment}
 use Rattle.transit_base.specs.declared.moments.Money.{Money}
 use Rattle.transit_base.specs.declared.numbers.StopId.{StopId}
 use Rattle.feed_rows.specs.declared.journeys.Ride.{Ride}
 use Rattle.feed_rows.specs.declared.states.FareState.{FareState}
 use Rattle.feed_rows.specs.declared.states.Move.{Move}
+use Rattle.fare_laws.specs.Amounts.{Spent, is_no_dearer}
 use Rattle.round_labels.specs.declared.kept_label.KeptLabel.{KeptLabel}
 use Rattle.round_labels.specs.declared.kept_label.KeptRide.{KeptRide}
 use Rattle.round_labels.specs.declared.label.Label.{Label}
@@ -76,12 +77,13 @@ pub record Grows (old new : List LastMove) : Type 0 where
 unfoldable pub comes_no_later : KeptLabel → KeptLabel → Bool
 comes_no_later a b = int_le a.arrival.0 b.arrival.0 && nat_le a.rides b.rides
 
--- the one has neither paid more nor costs more
-unfoldable pub is_no_dearer : KeptLabel → KeptLabel → Bool
-is_no_dearer a b = int_le a.paid.0 b.paid.0 && int_le (a.paid.0 +ℤ a.held.0) (b.paid.0 +ℤ b.held.0)
+-- what was paid, and what is held
+abbrev pub spent_kept : KeptLabel → Spent
+spent_kept kept = record { paid = kept.paid.0; held = kept.held.0 }
 
+-- the one arrives no later, by no more rides, and is no dearer
 unfoldable pub is_as_good : KeptLabel → KeptLabel → Bool
-is_as_good a b = comes_no_later a b && is_no_dearer a b
+is_as_good a b = comes_no_later a b && is_no_dearer (spent_kept a) (spent_kept b)
 
 -- ---- what can be kept
 

@@ -14,6 +14,7 @@ use Rattle.feed_rows.specs.PartialJourneys.{LabelFacts}
 use Rattle.feed_rows.specs.RoundTables.{Label as Kept}
 pub use Rattle.feed_rows.specs.SameStates.{same_parts}
 use Rattle.feed_rows.specs.JourneyStands.{Stand}
+use Rattle.fare_laws.specs.Amounts.{Spent, is_no_dearer}
 use Rattle.round_laws.specs.LabelSteps.{stand_of_facts}
 use Rattle.round_labels.specs.declared.label.Label.{Label}
 use Rattle.round_labels.specs.declared.label_class.LabelClass.{LabelClass}
@@ -90,13 +91,13 @@ same_state = option_eq same_parts
 unfoldable pub is_no_later : Label → Label → Bool
 is_no_later a b = (a.stop.0 == b.stop.0) && int_le a.arrival.0 b.arrival.0 && nat_le a.rides b.rides
 
--- the one has neither paid more nor costs more
-unfoldable pub costs_no_more : Label → Label → Bool
-costs_no_more a b = int_le a.paid.0 b.paid.0 && int_le (a.paid.0 +ℤ a.held.0) (b.paid.0 +ℤ b.held.0)
+-- what was paid, and what is held
+abbrev pub spent_of : Label → Spent
+spent_of label = record { paid = label.paid.0; held = label.held.0 }
 
 -- the one covers the other
 unfoldable pub covers : Label → Label → Bool
-covers a b = is_no_later a b && costs_no_more a b && same_state a.state b.state
+covers a b = is_no_later a b && is_no_dearer (spent_of a) (spent_of b) && same_state a.state b.state
 
 -- ---- classes
 

@@ -1,6 +1,7 @@
 //! Labels as a search keeps them: in fewer bytes.
 ghost use Rattle.std.specs.Prelude.{◌≡◌, ◌+ℤ◌, ◌≤◌, ◌^◌, nat_abs};
-ghost use Rattle.round_labels.specs.Kept.{IsKeepable, IsNarrow, comes_no_later, is_as_good, is_no_dearer, label_kept, ride_kept, state_after, whole_by};
+ghost use Rattle.fare_laws.specs.Amounts.{is_no_dearer};
+ghost use Rattle.round_labels.specs.Kept.{IsKeepable, IsNarrow, comes_no_later, is_as_good, label_kept, ride_kept, spent_kept, state_after, whole_by};
 
 use crate::label::Label;
 use feed_rows::{FareState, Move, Ride};
@@ -223,9 +224,9 @@ fn comes_no_later(a: &KeptLabel, b: &KeptLabel) -> bool
 
 /// Whether the one has neither paid more nor costs more.
 #[inline(always)]
-#[tactic(auto, unfolding(crate::specs::Kept::is_no_dearer))]
+#[tactic(auto, unfolding(fare_laws::specs::Amounts::is_no_dearer))]
 fn is_no_dearer(a: &KeptLabel, b: &KeptLabel) -> bool
-    ensures { result ≡ is_no_dearer a.now b.now }
+    ensures { result ≡ is_no_dearer (spent_kept a.now) (spent_kept b.now) }
 {
     a.paid.0 <= b.paid.0 && a.price() <= b.price()
 }
