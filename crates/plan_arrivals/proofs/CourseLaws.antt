@@ -36,7 +36,7 @@ use Rattle.round_search.specs.Steps.{IsEnd, IsStep, facts_after, stand_of_facts,
 use Rattle.round_search.specs.Terms.{Facts}
 use Rattle.plan_arrivals.specs.declared.no_fares.NoFare.{NoFare}
 use Rattle.plan_arrivals.specs.declared.no_fares.NoMove.{NoMove}
-use Rattle.plan_arrivals.specs.NoFares.{any, no_fares}
+use Rattle.plan_arrivals.specs.NoFares.{free_task, no_fares}
 use Rattle.plan_arrivals.specs.Arrivals.{AreArrivals, IsArrival, free_triple}
 
 module _ (feed : FeedRows) (query : Query) where
@@ -51,7 +51,7 @@ module _ (feed : FeedRows) (query : Query) where
     pub count : a.rides ≡ n
 
   abbrev IsFreeStep : Facts NoFare → Ride → NoMove → Facts NoFare → Type 0
-  IsFreeStep a ride move b = IsStep no_fares feed query a ride move b
+  IsFreeStep a ride move b = IsStep (free_task feed query) a ride move b
 
   -- after a ride one stands at its end
   at_end : (a : Facts NoFare) (f : RideFacts) (move : NoMove) → stand_of_facts (facts_after no_fares a f move) ≡ stand_at_end f
@@ -69,7 +69,7 @@ module _ (feed : FeedRows) (query : Query) where
       (ap Some (sym (ap (λ (x : Facts NoFare). stand_of_facts x) step.next ∙ at_end a step.facts move)))
 
   -- whatever is reached, rides lead there
-  pub course_of : (n : ℕ) (a : Facts NoFare) → IsReached (ways any no_fares feed query) n a → IsCourse n a
+  pub course_of : (n : ℕ) (a : Facts NoFare) → IsReached (ways (free_task feed query)) n a → IsCourse n a
   course_of zero a start = record {
     first = a.stop;
     starts = start.0;
@@ -98,8 +98,8 @@ module _ (feed : FeedRows) (query : Query) where
       }
 
   -- so what is reached and ends is a journey
-  pub journey_of : (n : ℕ) (a : Facts NoFare) (last : StopId) (triple : Triple) → IsReached (ways any no_fares feed query) n a →
-      IsEnd no_fares feed query a last triple →
+  pub journey_of : (n : ℕ) (a : Facts NoFare) (last : StopId) (triple : Triple) → IsReached (ways (free_task feed query)) n a →
+      IsEnd (free_task feed query) a last triple →
       (journey : Journey) × IsJourney feed query journey triple.arrival.0 × (triple ≡ free_triple journey triple.arrival.0)
   journey_of n a last triple reached end =
       let c = course_of n a reached in
@@ -124,7 +124,7 @@ module _ (feed : FeedRows) (query : Query) where
   -- a way is reached where one stands
   record IsWay (n : ℕ) (stand : Stand) : Type 0 where
     pub a : Facts NoFare
-    pub reached : IsReached (ways any no_fares feed query) n a
+    pub reached : IsReached (ways (free_task feed query)) n a
     pub stands : stand_of_facts a ≡ stand
     pub count : a.rides ≡ n
 
@@ -170,8 +170,8 @@ module _ (feed : FeedRows) (query : Query) where
   pub record IsEnded (journey : Journey) (arrival : ℤ) : Type 0 where
     pub n : ℕ
     pub a : Facts NoFare
-    pub reached : IsReached (ways any no_fares feed query) n a
-    pub end : IsEnd no_fares feed query a journey.last (free_triple journey arrival)
+    pub reached : IsReached (ways (free_task feed query)) n a
+    pub end : IsEnd (free_task feed query) a journey.last (free_triple journey arrival)
 
   pub ended_of : IsSoundFeed feed → (journey : Journey) (arrival : ℤ) → IsJourney feed query journey arrival → IsEnded journey arrival
   ended_of sound journey arrival is =
@@ -195,33 +195,33 @@ module _ (feed : FeedRows) (query : Query) where
   -- ---- labels
 
   -- each label of a search is reached
-  pub label_reached : (labels : List (Label NoFare NoMove)) → AreLinked (ways any no_fares feed query) (told no_fares feed query) labels →
+  pub label_reached : (labels : List (Label NoFare NoMove)) → AreLinked (ways (free_task feed query)) (told (free_task feed query)) labels →
       (number : ℕ) (x : Label NoFare NoMove) → slice_get labels number ≡ Some x →
-      IsReached (ways any no_fares feed query) x.rides (facts_of x)
+      IsReached (ways (free_task feed query)) x.rides (facts_of x)
   label_reached labels linked =
-      are_all (ways any no_fares feed query) (told no_fares feed query) labels linked
-      (λ number x. IsReached (ways any no_fares feed query) x.rides (facts_of x))
+      are_all (ways (free_task feed query)) (told (free_task feed query)) labels linked
+      (λ number x. IsReached (ways (free_task feed query)) x.rides (facts_of x))
       (λ number x is start. begins x start)
       (λ number x is next before. goes_on x next before)
     where
-      begins : (x : Label NoFare NoMove) → IsStart (ways any no_fares feed query) (told no_fares feed query) x →
-          IsReached (ways any no_fares feed query) x.rides (facts_of x)
+      begins : (x : Label NoFare NoMove) → IsStart (ways (free_task feed query)) (told (free_task feed query)) x →
+          IsReached (ways (free_task feed query)) x.rides (facts_of x)
       begins x start =
-          subst (λ n. IsReached (ways any no_fares feed query) n (facts_of x))
+          subst (λ n. IsReached (ways (free_task feed query)) n (facts_of x))
           (sym (ap (λ (f : Facts NoFare). f.rides) start.starts.1)) start.starts
 
       goes_on : (x : Label NoFare NoMove) {before : List (Label NoFare NoMove)} →
-          (next : IsNext (ways any no_fares feed query) (told no_fares feed query) before x) →
-          IsReached (ways any no_fares feed query) next.before.rides (facts_of next.before) →
-          IsReached (ways any no_fares feed query) x.rides (facts_of x)
+          (next : IsNext (ways (free_task feed query)) (told (free_task feed query)) before x) →
+          IsReached (ways (free_task feed query)) next.before.rides (facts_of next.before) →
+          IsReached (ways (free_task feed query)) x.rides (facts_of x)
       goes_on x next reached =
-          subst (λ n. IsReached (ways any no_fares feed query) n (facts_of x))
+          subst (λ n. IsReached (ways (free_task feed query)) n (facts_of x))
           (sym (ap (λ (f : Facts NoFare). f.rides) next.step.next ∙ add-one next.before.rides))
           (facts_of next.before, next.by, next.move, reached, next.step)
 
   -- so each final is the end of a journey
   pub final_arrival : (labels : List (Label NoFare NoMove)) (found : Final) →
-      AreLinked (ways any no_fares feed query) (told no_fares feed query) labels → IsFinal no_fares feed query labels found →
+      AreLinked (ways (free_task feed query)) (told (free_task feed query)) labels → IsFinal (free_task feed query) labels found →
       IsArrival feed query found
   final_arrival labels found linked final =
       let j = journey_of final.label.rides (facts_of final.label) found.last found.triple
@@ -230,11 +230,11 @@ module _ (feed : FeedRows) (query : Query) where
 
   -- what the search finds are the arrivals of the query
   pub arrivals_of : IsSoundFeed feed → (labels : List (Label NoFare NoMove)) (found : List Final) →
-      IsSearched any no_fares feed query labels found →
+      IsSearched (free_task feed query) labels found →
       IsFront (λ (a : Final) (b : Final). at_most a.triple b.triple) (λ (a : Final) (b : Final). is_before a.triple b.triple) found →
       AreArrivals feed query found
   arrivals_of sound labels found is front = record {
-    right = All-weaker (IsFinal no_fares feed query labels) (IsArrival feed query)
+    right = All-weaker (IsFinal (free_task feed query) labels) (IsArrival feed query)
         (λ one final. final_arrival labels one is.whole.linked final) found is.right;
     all = λ journey arrival goes.
         let e = ended_of sound journey arrival goes in

@@ -3,6 +3,9 @@ use Rattle.std.specs.Prelude.{Bool, true, pos}
 use Rattle.std.proofs.Common.{refl, arith}
 use Rattle.std.proofs.lemmas.Int.{ints}
 use Rattle.label_order.specs.Labels.{OrderLaws}
+use Rattle.feed_rows.specs.declared.journeys.Query.{Query}
+use Rattle.feed_rows.specs.FeedRows.{FeedRows}
+use Rattle.round_search.specs.Tasks.{Task}
 use Rattle.round_search.specs.Terms.{IsLawful, Terms}
 use Rattle.plan_arrivals.specs.declared.no_fares.NoFare.{NoFare}
 use Rattle.plan_arrivals.specs.declared.no_fares.NoMove.{NoMove}
@@ -27,6 +30,10 @@ no_fares = record {
   least = λ fare. pos 0;
   IsFare = λ rides fare. Unit {0};
 }
+
+-- such a search of the query
+abbrev pub free_task : FeedRows → Query → Task NoFare NoMove
+free_task feed query = record { at_most = any; terms = no_fares; feed = feed; query = query }
 
 pub free_lawful : IsLawful any no_fares
 free_lawful = record {

@@ -29,31 +29,31 @@ use Rattle.round_search.specs.Steps.{IsCaughtFrom, IsEnd, IsStep, facts_after, s
 use Rattle.round_search.specs.Terms.{Covers, Facts, IsLawful, Terms}
 use Rattle.round_search.proofs.FinalLaws.{bettered_up}
 use Rattle.round_search.proofs.LawfulLaws.{parts_below}
+use Rattle.round_search.specs.Tasks.{HasLaws, Task}
 
-module _ {F M : Type 0} (at_most : F → F → Bool) (t : Terms F M) (laws : OrderLaws at_most) (lawful : IsLawful at_most t)
-    (feed : FeedRows) (query : Query) where
+module _ {F M : Type 0} (task : Task F M) (laws : HasLaws task) where
   -- ---- what covers
 
-  least_below : (a b : Facts F) → Covers at_most a b → is_no_worse (least_end t a) (least_end t b) ≡ true
+  least_below : (a b : Facts F) → Covers task.at_most a b → is_no_worse (least_end task.terms a) (least_end task.terms b) ≡ true
   least_below a b covers =
-      parts_below (least_end t a) (least_end t b) covers.arrival covers.rides (lawful.least_below a.fare b.fare covers.fare)
+      parts_below (least_end task.terms a) (least_end task.terms b) covers.arrival covers.rides (laws.fares.least_below a.fare b.fare covers.fare)
 
   -- what is covered by what is cut off is cut off
-  pub cut_below : (finals : List Final) (a b : Facts F) → Covers at_most a b → IsCut t finals a → IsCut t finals b
-  cut_below finals a b covers cut = bettered_up finals (least_end t a) (least_end t b) cut (least_below a b covers)
+  pub cut_below : (finals : List Final) (a b : Facts F) → Covers task.at_most a b → IsCut task.terms finals a → IsCut task.terms finals b
+  cut_below finals a b covers cut = bettered_up finals (least_end task.terms a) (least_end task.terms b) cut (least_below a b covers)
 
   -- ---- finals
 
   -- what was cut off by ends of labels is so by ends of more labels
   pub cut_still : (labels more : List (Label F M)) (old new : List Final) →
-      AddsEnds t feed query labels (EndsBelow t feed query labels (length labels)) [] old →
-      AddsEnds t feed query (labels ++ more) (EndsBelow t feed query (labels ++ more) (length (labels ++ more))) [] new →
-      (b : Facts F) → IsCut t old b → IsCut t new b
+      AddsEnds task labels (EndsBelow task labels (length labels)) [] old →
+      AddsEnds task (labels ++ more) (EndsBelow task (labels ++ more) (length (labels ++ more))) [] new →
+      (b : Facts F) → IsCut task.terms old b → IsCut task.terms new b
   cut_still labels more old new before after b cut =
-      let some = list_any_tells (λ (final : Final). is_no_worse final.triple (least_end t b)) old cut in
-      let of = All-contains (IsFinal t feed query labels) old some.0 (before.right (All-nil (IsFinal t feed query labels))) some.1 in
+      let some = list_any_tells (λ (final : Final). is_no_worse final.triple (least_end task.terms b)) old cut in
+      let of = All-contains (IsFinal task labels) old some.0 (before.right (All-nil (IsFinal task labels))) some.1 in
       let there = slice_get-append_left labels more some.0.label (slice_get_within labels some.0.label of.label of.is) in
-      bettered_up new some.0.triple (least_end t b)
+      bettered_up new some.0.triple (least_end task.terms b)
       (after.all some.0.triple (
         some.0.label,
         slice_get_within (labels ++ more) some.0.label of.label (there ∙ of.is),
@@ -64,37 +64,37 @@ module _ {F M : Type 0} (at_most : F → F → Bool) (t : Terms F M) (laws : Ord
 
   -- ---- what goes on
 
-  module _ (sound : IsSoundFeed feed) where
+  module _ (sound : IsSoundFeed task.feed) where
     -- a ride that is caught arrives no earlier than one stood there
-    later_ride : (a : Facts F) (ride : Ride) (facts : RideFacts) → IsCaughtFrom feed query (stand_of_facts a) a.rides ride facts →
+    later_ride : (a : Facts F) (ride : Ride) (facts : RideFacts) → IsCaughtFrom task.feed task.query (stand_of_facts a) a.rides ride facts →
         a.arrival ≤ℤ facts.arrival.0
     later_ride a ride facts c =
-        let timed = ride_facts_timed feed ride facts most_time (sound_trip feed ride.trip sound) c.is in
+        let timed = ride_facts_timed task.feed ride facts most_time (sound_trip task.feed ride.trip sound) c.is in
         let way =
-        filled_and-true (way_to feed query (stand_of_facts a) facts.from) (λ (w : ℕ). int_le (a.arrival +ℤ pos w) facts.departure.0)
+        filled_and-true (way_to task.feed task.query (stand_of_facts a) facts.from) (λ (w : ℕ). int_le (a.arrival +ℤ pos w) facts.departure.0)
         c.caught in
         onward a.arrival facts.departure.0 facts.arrival.0 way.value (int_le-true _ _ way.passes) timed.forward
       where
         onward : (at departs arrives : ℤ) (way : ℕ) → (at +ℤ pos way) ≤ℤ departs → departs ≤ℤ arrives → at ≤ℤ arrives
         onward at departs arrives way p q = omega (arith, ints, p, q)
 
-    least_after : (a b : Facts F) (ride : Ride) (move : M) → IsStep t feed query a ride move b →
-        is_no_worse (least_end t a) (least_end t b) ≡ true
+    least_after : (a b : Facts F) (ride : Ride) (move : M) → IsStep task a ride move b →
+        is_no_worse (least_end task.terms a) (least_end task.terms b) ≡ true
     least_after a b ride move step =
-        subst (λ (f : Facts F). is_no_worse (least_end t a) (least_end t f) ≡ true) (sym step.next)
-        (parts_below (least_end t a) (least_end t (facts_after t a step.facts move)) (later_ride a ride step.facts step.rides) (omega arith)
-        (lawful.least_stays a step.facts move step.fare step.pays))
+        subst (λ (f : Facts F). is_no_worse (least_end task.terms a) (least_end task.terms f) ≡ true) (sym step.next)
+        (parts_below (least_end task.terms a) (least_end task.terms (facts_after task.terms a step.facts move)) (later_ride a ride step.facts step.rides) (omega arith)
+        (laws.fares.least_stays a step.facts move step.fare step.pays))
 
     -- what is cut off leads only to what is
-    pub cut_after : (finals : List Final) (a b : Facts F) (ride : Ride) (move : M) → IsStep t feed query a ride move b →
-        IsCut t finals a → IsCut t finals b
-    cut_after finals a b ride move step cut = bettered_up finals (least_end t a) (least_end t b) cut (least_after a b ride move step)
+    pub cut_after : (finals : List Final) (a b : Facts F) (ride : Ride) (move : M) → IsStep task a ride move b →
+        IsCut task.terms finals a → IsCut task.terms finals b
+    cut_after finals a b ride move step cut = bettered_up finals (least_end task.terms a) (least_end task.terms b) cut (least_after a b ride move step)
 
-    least_ends : (a : Facts F) (last : StopId) (triple : Triple) → IsEnd t feed query a last triple → is_no_worse (least_end t a) triple ≡ true
+    least_ends : (a : Facts F) (last : StopId) (triple : Triple) → IsEnd task a last triple → is_no_worse (least_end task.terms a) triple ≡ true
     unfolding end_arrival
     least_ends a last triple e =
-        parts_below (least_end t a) triple (by (way_out feed query (stand_of_facts a) last) e.arrives)
-        (let same = e.rides in omega (arith, same)) (dearer (t.least a.fare) (t.price a.fare) triple.price.0 (lawful.least_ends a.fare) e.price)
+        parts_below (least_end task.terms a) triple (by (way_out task.feed task.query (stand_of_facts a) last) e.arrives)
+        (let same = e.rides in omega (arith, same)) (dearer (task.terms.least a.fare) (task.terms.price a.fare) triple.price.0 (laws.fares.least_ends a.fare) e.price)
       where
         later : (x y : ℤ) (s : ℕ) → x +ℤ pos s ≡ y → x ≤ℤ y
         later x y s e = omega (arith, ints, e)
@@ -106,16 +106,16 @@ module _ {F M : Type 0} (at_most : F → F → Bool) (t : Terms F M) (laws : Ord
         by None arrives = absurd (none-some _ arrives)
         by (Some s) arrives = later a.arrival triple.arrival.0 s (same_Some _ _ arrives)
 
-    least_leads : (n : ℕ) (a : Facts F) (other : Triple) → LeadsBy (ways at_most t feed query) n a other →
-        is_no_worse (least_end t a) other ≡ true
+    least_leads : (n : ℕ) (a : Facts F) (other : Triple) → LeadsBy (ways task) n a other →
+        is_no_worse (least_end task.terms a) other ≡ true
     least_leads zero a other leads = least_ends a leads.0 other leads.1
     least_leads (suc n) a other leads =
-        at_most-trans (least_end t a) (least_end t leads.2) other (least_after a leads.2 leads.0 leads.1 leads.3)
+        at_most-trans (least_end task.terms a) (least_end task.terms leads.2) other (least_after a leads.2 leads.0 leads.1 leads.3)
         (least_leads n leads.2 other leads.4)
 
-    pub cuts : AreCuts (ways at_most t feed query) (Cuts t)
+    pub cuts : AreCuts (ways task) (Cuts task.terms)
     cuts = record {
-      after = λ triple a b ride move step cut. at_most-trans triple (least_end t a) (least_end t b) cut (least_after a b ride move step);
-      below = λ triple a b covers cut. at_most-trans triple (least_end t a) (least_end t b) cut (least_below a b covers);
-      leads = λ triple n a other cut leads. at_most-trans triple (least_end t a) other cut (least_leads n a other leads);
+      after = λ triple a b ride move step cut. at_most-trans triple (least_end task.terms a) (least_end task.terms b) cut (least_after a b ride move step);
+      below = λ triple a b covers cut. at_most-trans triple (least_end task.terms a) (least_end task.terms b) cut (least_below a b covers);
+      leads = λ triple n a other cut leads. at_most-trans triple (least_end task.terms a) other cut (least_leads n a other leads);
     }

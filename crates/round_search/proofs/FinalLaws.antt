@@ -30,6 +30,7 @@ use Rattle.round_search.specs.Searches.{AreEnding, IsEnding, IsFit}
 use Rattle.round_search.specs.Steps.{IsEnd, stand_of_facts}
 use Rattle.round_search.specs.Terms.{Terms}
 use Rattle.round_search.proofs.LawfulLaws.{parts_below}
+use Rattle.round_search.specs.Tasks.{Task}
 
 -- finals by their triples
 abbrev pub as_good : Final → Final → Bool
@@ -47,59 +48,59 @@ bettered_up (x ∷ xs) s t h le =
 same_parts_at_most : (a b : Triple) → a.arrival.0 ≡ b.arrival.0 → a.rides ≡ b.rides → a.price.0 ≡ b.price.0 → is_no_worse a b ≡ true
 same_parts_at_most a b p q r = parts_below a b (omega (arith, ints, p)) (omega (arith, q)) (omega (arith, ints, r))
 
-module _ {F M : Type 0} (t : Terms F M) (feed : FeedRows) (query : Query) where
+module _ {F M : Type 0} (task : Task F M) where
   module _ (labels : List (Label F M)) where
     -- nothing was offered
     pub ends_none : (Part : Triple → Type 0) (finals : List Final) → ((triple : Triple) → Part triple → ⊥) →
-        AddsEnds t feed query labels Part finals finals
+        AddsEnds task labels Part finals finals
     ends_none Part finals none = adds_none (λ h. h) none
 
     -- one part after another
-    pub ends_more : (Part More Whole : Triple → Type 0) (old mid new : List Final) → AddsEnds t feed query labels Part old mid →
-        AddsEnds t feed query labels More mid new → ((triple : Triple) → Whole triple → Part triple ⊎ More triple) →
-        AddsEnds t feed query labels Whole old new
+    pub ends_more : (Part More Whole : Triple → Type 0) (old mid new : List Final) → AddsEnds task labels Part old mid →
+        AddsEnds task labels More mid new → ((triple : Triple) → Whole triple → Part triple ⊎ More triple) →
+        AddsEnds task labels Whole old new
     ends_more Part More Whole old mid new one two whole = adds_more (λ f g h. g (f h)) one two whole
 
     -- a part said otherwise
-    pub ends_same : (Part Whole : Triple → Type 0) (old new : List Final) → AddsEnds t feed query labels Part old new →
-        ((triple : Triple) → Whole triple → Part triple) → AddsEnds t feed query labels Whole old new
+    pub ends_same : (Part Whole : Triple → Type 0) (old new : List Final) → AddsEnds task labels Part old new →
+        ((triple : Triple) → Whole triple → Part triple) → AddsEnds task labels Whole old new
     ends_same Part Whole old new one whole = adds_same one whole
 
     -- an offer of a final that is at most each triple of the part
     pub ends_offer : {E : Type 0} (result : Result (Unit {0}) E) (Part : Triple → Type 0) (item : Final) (old new : List Final) →
-        IsFinal t feed query labels item → ((triple : Triple) → Part triple → is_no_worse item.triple triple ≡ true) →
+        IsFinal task labels item → ((triple : Triple) → Part triple → is_no_worse item.triple triple ≡ true) →
         OnOk result (has_as_good as_good new item ≡ true) → OnOk result (CoversAll as_good old new) →
-        OnOk result (All (λ x. Contains old x ⊎ (x ≡ item)) new) → OnOk result (AddsEnds t feed query labels Part old new)
+        OnOk result (All (λ x. Contains old x ⊎ (x ≡ item)) new) → OnOk result (AddsEnds task labels Part old new)
     ends_offer (Err e) Part item old new right least covered still from = covered
     ends_offer (Ok u) Part item old new right least covered still from = record {
       still = λ triple h. still.still (record { triple = triple; label = 0; last = record { 0 = 0 } }) h;
-      right = λ h. All-weaker (λ x. Contains old x ⊎ (x ≡ item)) (IsFinal t feed query labels)
-          (λ x. ⊎_elim (λ before. All-contains (IsFinal t feed query labels) old x h before) (λ same. subst (IsFinal t feed query labels) (sym same) right)) new from;
+      right = λ h. All-weaker (λ x. Contains old x ⊎ (x ≡ item)) (IsFinal task labels)
+          (λ x. ⊎_elim (λ before. All-contains (IsFinal task labels) old x h before) (λ same. subst (IsFinal task labels) (sym same) right)) new from;
       all = λ triple part. bettered_up new item.triple triple covered (least triple part);
     }
 
   -- ---- one label
 
-  module _ (source : Source F M) (is : IsEnding t feed query source) where
+  module _ (source : Source F M) (is : IsEnding task source) where
     abbrev label : Label F M
     label = source.label.now
 
     module _ (last : StopId) (result : Option Moment)
-        (arrives : option_map (λ (m : Moment). m.0) result ≡ arrival_in_time feed query (stand_of_facts (facts_of source.label.now)) last) where
+        (arrives : option_map (λ (m : Moment). m.0) result ≡ arrival_in_time task.feed task.query (stand_of_facts (facts_of source.label.now)) last) where
       -- it ends at the stop with the final's triple, and with no other
       module _ (arrival : Moment) (some : result ≡ Some arrival) (item : Final) (at : item.triple.arrival ≡ arrival)
-          (rides : item.triple.rides ≡ source.label.now.rides) (price : item.triple.price.0 ≡ t.price source.label.now.fare) where
-        pub end_is : IsTrue (stands_for feed query.to last) → item.label ≡ source.number → item.last ≡ last →
-            IsFinal t feed query source.labels.now item
+          (rides : item.triple.rides ≡ source.label.now.rides) (price : item.triple.price.0 ≡ task.terms.price source.label.now.fare) where
+        pub end_is : IsTrue (stands_for task.feed task.query.to last) → item.label ≡ source.number → item.last ≡ last →
+            IsFinal task source.labels.now item
         end_is stands number stop =
             let reached = sym arrives ∙ ap (option_map (λ (m : Moment). m.0)) some in
-            let timed = arrives_in_time feed query (stand_of_facts (facts_of label)) last arrival.0 reached in
+            let timed = arrives_in_time task.feed task.query (stand_of_facts (facts_of label)) last arrival.0 reached in
             record {
               label = label;
               is = ap (slice_get source.labels.now) number ∙ is.is;
               end = record {
-                ends = subst (λ (s : StopId). IsTrue (stands_for feed query.to s)) (sym stop) stands;
-                arrives = ap (end_arrival feed query (stand_of_facts (facts_of label))) stop ∙ timed.0 ∙ ap (λ (m : Moment). Some m.0) (sym at);
+                ends = subst (λ (s : StopId). IsTrue (stands_for task.feed task.query.to s)) (sym stop) stands;
+                arrives = ap (end_arrival task.feed task.query (stand_of_facts (facts_of label))) stop ∙ timed.0 ∙ ap (λ (m : Moment). Some m.0) (sym at);
                 in_time = later _ _ _ (ap (λ (m : Moment). m.0) at) timed.1;
                 rides = rides;
                 price = price;
@@ -109,74 +110,74 @@ module _ {F M : Type 0} (t : Terms F M) (feed : FeedRows) (query : Query) where
             later : (x y z : ℤ) → x ≡ y → y ≤ℤ z → x ≤ℤ z
             later x y z e le = omega (arith, ints, e, le)
 
-        pub end_least : (triple : Triple) → IsEnd t feed query (facts_of label) last triple → is_no_worse item.triple triple ≡ true
+        pub end_least : (triple : Triple) → IsEnd task (facts_of label) last triple → is_no_worse item.triple triple ≡ true
         end_least triple end =
             let same : Some triple.arrival.0 ≡ Some arrival.0 =
-            sym (in_time_arrives feed query (stand_of_facts (facts_of label)) last triple.arrival.0 end.arrives end.in_time) ∙ sym arrives
+            sym (in_time_arrives task.feed task.query (stand_of_facts (facts_of label)) last triple.arrival.0 end.arrives end.in_time) ∙ sym arrives
             ∙ ap (option_map (λ (m : Moment). m.0)) some in
             same_parts_at_most item.triple triple (ap (λ (m : Moment). m.0) at ∙ sym (same_Some _ _ same)) (rides ∙ sym end.rides)
             (price ∙ sym end.price)
 
       -- it doesn't end there in time
       pub end_none : (finals : List Final) → result ≡ None →
-          AddsEnds t feed query source.labels.now (IsEnd t feed query (facts_of label) last) finals finals
+          AddsEnds task source.labels.now (IsEnd task (facts_of label) last) finals finals
       end_none finals none =
           ends_none source.labels.now _ finals (λ triple end.
           none-some triple.arrival.0 (sym (ap (option_map (λ (m : Moment). m.0)) none) ∙ arrives
-          ∙ in_time_arrives feed query (stand_of_facts (facts_of label)) last triple.arrival.0 end.arrives end.in_time))
+          ∙ in_time_arrives task.feed task.query (stand_of_facts (facts_of label)) last triple.arrival.0 end.arrives end.in_time))
 
     -- one more of the stops
     pub stops_more : (lasts : List StopId) (k : ℕ) (last : StopId) (triple : Triple) → slice_get lasts k ≡ Some last →
-        EndsAmong t feed query label lasts (k + 1) triple →
-        EndsAmong t feed query label lasts k triple ⊎ IsEnd t feed query (facts_of label) last triple
+        EndsAmong task label lasts (k + 1) triple →
+        EndsAmong task label lasts k triple ⊎ IsEnd task (facts_of label) last triple
     stops_more lasts k last triple at among =
         let below = among.1 in
         ⊎_elim (λ lower. inl (among.0, lower, among.2, among.3, among.4))
         (λ upper. let same : among.0 ≡ k = omega (arith, below, upper) in
-        inr (subst (λ (s : StopId). IsEnd t feed query (facts_of label) s triple) (same_Some _ _ (sym among.3 ∙ ap (slice_get lasts) same ∙ at)) among.4))
+        inr (subst (λ (s : StopId). IsEnd task (facts_of label) s triple) (same_Some _ _ (sym among.3 ∙ ap (slice_get lasts) same ∙ at)) among.4))
         (cases_lt among.0 k)
 
     -- each end is at one of them
-    pub stops_all : (lasts : List StopId) (n : ℕ) (triple : Triple) → lasts ≡ stop_set feed query.to → length lasts ≤ n →
-        EndsIn t feed query label triple → EndsAmong t feed query label lasts n triple
+    pub stops_all : (lasts : List StopId) (n : ℕ) (triple : Triple) → lasts ≡ stop_set task.feed task.query.to → length lasts ≤ n →
+        EndsIn task label triple → EndsAmong task label lasts n triple
     stops_all lasts n triple same all ends =
-        let member = member_of_stands_for feed query.to ends.0 ends.1.ends in
+        let member = member_of_stands_for task.feed task.query.to ends.0 ends.1.ends in
         let lt = member.1 in
         (member.0, omega (arith, lt, ap length same, all), ends.0, ap (λ ss. slice_get ss member.0) same ∙ member.2, ends.1)
 
   -- ---- all labels
 
   -- one of labels that end
-  pub ending_is : (labels : List (Label F M)) (source : Source F M) → AreEnding t feed query labels → source.labels.now ≡ labels →
-      slice_get labels source.number ≡ Some source.label.now → IsEnding t feed query source
+  pub ending_is : (labels : List (Label F M)) (source : Source F M) → AreEnding task labels → source.labels.now ≡ labels →
+      slice_get labels source.number ≡ Some source.label.now → IsEnding task source
   ending_is labels source are same at = record {
     is = ap (λ ls. slice_get ls source.number) same ∙ at;
     usual = are.usual;
-    few = All-slice_get (λ (x : Label F M). x.rides ≤ query.rides) labels source.number source.label.now at are.few;
-    fit = All-slice_get (IsFit t feed query) labels source.number source.label.now at are.fit;
+    few = All-slice_get (λ (x : Label F M). x.rides ≤ task.query.rides) labels source.number source.label.now at are.few;
+    fit = All-slice_get (IsFit task) labels source.number source.label.now at are.fit;
   }
 
   module _ (labels : List (Label F M)) where
     -- one label more
     pub labels_more : (n : ℕ) (x : Label F M) (triple : Triple) → slice_get labels n ≡ Some x →
-        EndsBelow t feed query labels (n + 1) triple → EndsBelow t feed query labels n triple ⊎ EndsIn t feed query x triple
+        EndsBelow task labels (n + 1) triple → EndsBelow task labels n triple ⊎ EndsIn task x triple
     labels_more n x triple at ends =
         let below = ends.1 in
         ⊎_elim (λ lower. inl (ends.0, lower, ends.2, ends.3, ends.4))
         (λ upper. let same : ends.0 ≡ n = omega (arith, below, upper) in
-        inr (subst (λ (y : Label F M). EndsIn t feed query y triple) (same_Some _ _ (sym ends.3 ∙ ap (slice_get labels) same ∙ at)) ends.4))
+        inr (subst (λ (y : Label F M). EndsIn task y triple) (same_Some _ _ (sym ends.3 ∙ ap (slice_get labels) same ∙ at)) ends.4))
         (cases_lt ends.0 n)
 
     -- each end of a label is one of the labels below any number past the last
-    pub below_all : (n : ℕ) (triple : Triple) → length labels ≤ n → EndsBelow t feed query labels (length labels) triple →
-        EndsBelow t feed query labels n triple
+    pub below_all : (n : ℕ) (triple : Triple) → length labels ≤ n → EndsBelow task labels (length labels) triple →
+        EndsBelow task labels n triple
     below_all n triple all ends = let below = ends.1 in (ends.0, omega (arith, below, all), ends.2, ends.3, ends.4)
 
     -- no label ends in anything
     pub ends_start : (finals : List Final) → labels ≡ [] → finals ≡ [] →
-        AddsEnds t feed query labels (EndsBelow t feed query labels (length labels)) [] finals
+        AddsEnds task labels (EndsBelow task labels (length labels)) [] finals
     ends_start finals none empty =
-        subst (AddsEnds t feed query labels (EndsBelow t feed query labels (length labels)) []) (sym empty)
+        subst (AddsEnds task labels (EndsBelow task labels (length labels)) []) (sym empty)
         (ends_none labels _ [] (λ triple ends.
         let lt = ends.1 in
         let short = ap length none in
@@ -184,16 +185,16 @@ module _ {F M : Type 0} (t : Terms F M) (feed : FeedRows) (query : Query) where
 
     -- what was found of labels is so where more follow them
     pub ends_longer : (more : List (Label F M)) (finals : List Final) →
-        AddsEnds t feed query labels (EndsBelow t feed query labels (length labels)) [] finals →
-        AddsEnds t feed query (labels ++ more) (EndsBelow t feed query (labels ++ more) (length labels)) [] finals
+        AddsEnds task labels (EndsBelow task labels (length labels)) [] finals →
+        AddsEnds task (labels ++ more) (EndsBelow task (labels ++ more) (length labels)) [] finals
     ends_longer more finals adds = record {
       still = adds.still;
-      right = λ none. All-weaker (IsFinal t feed query labels) (IsFinal t feed query (labels ++ more))
+      right = λ none. All-weaker (IsFinal task labels) (IsFinal task (labels ++ more))
           (λ f is. record {
             label = is.label;
             is = slice_get-append_left labels more f.label (slice_get_within labels f.label is.label is.is) ∙ is.is;
             end = is.end;
-          }) finals (adds.right (All-nil (IsFinal t feed query labels)));
+          }) finals (adds.right (All-nil (IsFinal task labels)));
       all = λ triple ends. adds.all triple (
         ends.0,
         ends.1,

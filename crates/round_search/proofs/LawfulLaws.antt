@@ -22,6 +22,7 @@ use Rattle.round_search.specs.CoverLaws.{cover_laws, covers-tells}
 use Rattle.round_search.specs.Searches.{search_of}
 use Rattle.round_search.specs.Steps.{IsCaughtFrom, IsEnd, IsStep, facts_after, stand_of_facts, ways}
 use Rattle.round_search.specs.Terms.{Covers, Facts, IsLawful, Terms}
+use Rattle.round_search.specs.Tasks.{HasLaws, Task}
 
 no_later : (x y z : ℤ) → x ≤ℤ y → y ≤ℤ z → x ≤ℤ z
 no_later x y z p q = omega (arith, ints, p, q)
@@ -54,53 +55,52 @@ parts_below a b = by a.arrival.0 b.arrival.0 a.price.0 b.price.0 a.rides b.rides
     by : (x x' p p' : ℤ) (n n' : ℕ) → x ≤ℤ x' → n ≤ n' → p ≤ℤ p' → (int_le x x' && nat_le n n' && int_le p p') ≡ true
     by x x' p p' n n' le few less = grind (arith, ints, nat_tests, le, few, less)
 
-module _ {F M : Type 0} (at_most : F → F → Bool) (t : Terms F M) (laws : OrderLaws at_most) (lawful : IsLawful at_most t)
-    (feed : FeedRows) (query : Query) where
-  pub covers-trans : (a b c : Facts F) → Covers at_most a b → Covers at_most b c → Covers at_most a c
+module _ {F M : Type 0} (task : Task F M) (laws : HasLaws task) where
+  pub covers-trans : (a b c : Facts F) → Covers task.at_most a b → Covers task.at_most b c → Covers task.at_most a c
   covers-trans a b c p q = record {
     stop = p.stop ∙ q.stop;
     arrival = no_later a.arrival b.arrival c.arrival p.arrival q.arrival;
     rides = let one = p.rides in let two = q.rides in omega (arith, one, two);
     fresh = p.fresh ∙ q.fresh;
-    fare = laws.transitive a.fare b.fare c.fare p.fare q.fare;
+    fare = laws.order.transitive a.fare b.fare c.fare p.fare q.fare;
   }
 
   -- ---- where one stands
 
-  module _ (a b : Facts F) (covers : Covers at_most a b) where
+  module _ (a b : Facts F) (covers : Covers task.at_most a b) where
     -- one stands alike but for the moment
     same_place : ◌≡◌ {A = Stand} (record (stand_of_facts a) { at = b.arrival }) (stand_of_facts b)
     unfolding stand
     same_place = alike a.stop b.stop b.arrival (a.rides == 0) (b.rides == 0) covers.stop covers.fresh
 
     -- and ways are as long from one as from the other
-    same_way : (boarding : StopId) → way_to feed query (stand_of_facts a) boarding ≡ way_to feed query (stand_of_facts b) boarding
-    same_way boarding = ap (λ (p : Stand). way_to feed query p boarding) same_place
+    same_way : (boarding : StopId) → way_to task.feed task.query (stand_of_facts a) boarding ≡ way_to task.feed task.query (stand_of_facts b) boarding
+    same_way boarding = ap (λ (p : Stand). way_to task.feed task.query p boarding) same_place
 
-    same_way_out : (last : StopId) → way_out feed query (stand_of_facts a) last ≡ way_out feed query (stand_of_facts b) last
-    same_way_out last = ap (λ (p : Stand). way_out feed query p last) same_place
+    same_way_out : (last : StopId) → way_out task.feed task.query (stand_of_facts a) last ≡ way_out task.feed task.query (stand_of_facts b) last
+    same_way_out last = ap (λ (p : Stand). way_out task.feed task.query p last) same_place
 
     -- so a ride that goes on from facts goes on from those that cover them
-    catches_too : (ride : Ride) (facts : RideFacts) → IsCaughtFrom feed query (stand_of_facts b) b.rides ride facts →
-        IsCaughtFrom feed query (stand_of_facts a) a.rides ride facts
+    catches_too : (ride : Ride) (facts : RideFacts) → IsCaughtFrom task.feed task.query (stand_of_facts b) b.rides ride facts →
+        IsCaughtFrom task.feed task.query (stand_of_facts a) a.rides ride facts
     catches_too ride facts c = record {
       is = c.is;
       few = let one = covers.rides in let two = c.few in omega (arith, one, two);
       caught =
           subst (λ (way : Option ℕ). is_caught a.arrival way facts ≡ true) (sym (same_way facts.from))
-          (caught_sooner a.arrival b.arrival (way_to feed query (stand_of_facts b) facts.from) facts covers.arrival c.caught);
+          (caught_sooner a.arrival b.arrival (way_to task.feed task.query (stand_of_facts b) facts.from) facts covers.arrival c.caught);
       in_time = c.in_time;
     }
 
   -- ---- one more ride
 
-  follow : (a b : Facts F) (ride : Ride) (move : M) (next : Facts F) → t.IsFare a.rides a.fare → t.IsFare b.rides b.fare →
-      Covers at_most a b → IsStep t feed query b ride move next → IsFollowed (ways at_most t feed query) a ride next
+  follow : (a b : Facts F) (ride : Ride) (move : M) (next : Facts F) → task.terms.IsFare a.rides a.fare → task.terms.IsFare b.rides b.fare →
+      Covers task.at_most a b → IsStep task b ride move next → IsFollowed (ways task) a ride next
   follow a b ride move next of_a of_b covers step =
-      let f = lawful.follow a b step.facts move of_a of_b covers step.pays in
+      let f = laws.fares.follow a b step.facts move of_a of_b covers step.pays in
       record {
         move = f.move;
-        b = facts_after t a step.facts f.move;
+        b = facts_after task.terms a step.facts f.move;
         step = record {
           fare = of_a;
           facts = step.facts;
@@ -109,7 +109,7 @@ module _ {F M : Type 0} (at_most : F → F → Bool) (t : Terms F M) (laws : Ord
           next = refl;
         };
         covers =
-            subst (Covers at_most (facts_after t a step.facts f.move)) (sym step.next)
+            subst (Covers task.at_most (facts_after task.terms a step.facts f.move)) (sym step.next)
             (record {
               stop = refl;
               arrival = itself step.facts.arrival.0;
@@ -119,20 +119,20 @@ module _ {F M : Type 0} (at_most : F → F → Bool) (t : Terms F M) (laws : Ord
             });
       }
 
-  steps_sound : (a b : Facts F) (ride : Ride) (move : M) → IsStep t feed query a ride move b → t.IsFare b.rides b.fare
+  steps_sound : (a b : Facts F) (ride : Ride) (move : M) → IsStep task a ride move b → task.terms.IsFare b.rides b.fare
   steps_sound a b ride move step =
-      subst (λ (f : Facts F). t.IsFare f.rides f.fare) (sym step.next) (lawful.stays a step.facts move step.fare step.pays)
+      subst (λ (f : Facts F). task.terms.IsFare f.rides f.fare) (sym step.next) (laws.fares.stays a step.facts move step.fare step.pays)
 
   -- ---- ends
 
   -- the triple with this arrival
   abbrev end_at : Facts F → ℤ → Triple
-  end_at a arrival = record { arrival = record { 0 = arrival }; rides = a.rides; price = record { 0 = t.price a.fare } }
+  end_at a arrival = record { arrival = record { 0 = arrival }; rides = a.rides; price = record { 0 = task.terms.price a.fare } }
 
-  ends_no_worse : (a b : Facts F) (last : StopId) (worse : Triple) → Covers at_most a b → IsEnd t feed query b last worse →
-      EndsNoWorse (ways at_most t feed query) a last worse
+  ends_no_worse : (a b : Facts F) (last : StopId) (worse : Triple) → Covers task.at_most a b → IsEnd task b last worse →
+      EndsNoWorse (ways task) a last worse
   unfolding end_arrival
-  ends_no_worse a b last worse covers e = by (way_out feed query (stand_of_facts b) last) refl e.arrives
+  ends_no_worse a b last worse covers e = by (way_out task.feed task.query (stand_of_facts b) last) refl e.arrives
     where
       sooner : (x x' y' : ℤ) (s : ℕ) → x ≤ℤ x' → x' +ℤ pos s ≡ y' → (x +ℤ pos s) ≤ℤ y'
       sooner x x' y' s le e = omega (arith, ints, le, e)
@@ -140,8 +140,8 @@ module _ {F M : Type 0} (at_most : F → F → Bool) (t : Terms F M) (laws : Ord
       dearer : (p p' q : ℤ) → p ≤ℤ p' → q ≡ p' → p ≤ℤ q
       dearer p p' q le e = omega (arith, ints, le, e)
 
-      by : (way : Option ℕ) → way_out feed query (stand_of_facts b) last ≡ way →
-          option_map (λ s. b.arrival +ℤ pos s) way ≡ Some worse.arrival.0 → EndsNoWorse (ways at_most t feed query) a last worse
+      by : (way : Option ℕ) → way_out task.feed task.query (stand_of_facts b) last ≡ way →
+          option_map (λ s. b.arrival +ℤ pos s) way ≡ Some worse.arrival.0 → EndsNoWorse (ways task) a last worse
       by None is arrives = absurd (none-some _ arrives)
       by (Some s) is arrives =
           let later = sooner a.arrival b.arrival worse.arrival.0 s covers.arrival (same_Some _ _ arrives) in
@@ -158,14 +158,14 @@ module _ {F M : Type 0} (at_most : F → F → Bool) (t : Terms F M) (laws : Ord
             below =
                 parts_below (end_at a (a.arrival +ℤ pos s)) worse later
                 (let few = covers.rides in let same = e.rides in omega (arith, few, same))
-                (dearer (t.price a.fare) (t.price b.fare) worse.price.0 (lawful.costs a.fare b.fare covers.fare) e.price);
+                (dearer (task.terms.price a.fare) (task.terms.price b.fare) worse.price.0 (laws.fares.costs a.fare b.fare covers.fare) e.price);
           }
 
   -- ---- the laws of a search
 
-  pub ways_lawful : AreLawful (ways at_most t feed query)
+  pub ways_lawful : AreLawful (ways task)
   ways_lawful = record {
-    starts = λ a start. subst (λ (f : Facts F). t.IsFare f.rides f.fare) (sym start.1) lawful.begins;
+    starts = λ a start. subst (λ (f : Facts F). task.terms.IsFare f.rides f.fare) (sym start.1) laws.fares.begins;
     steps = λ a b ride move step. steps_sound a b ride move step;
     onward = covers-trans;
     follow = λ a b ride move next of_a of_b covers step. follow a b ride move next of_a of_b covers step;
@@ -173,9 +173,9 @@ module _ {F M : Type 0} (at_most : F → F → Bool) (t : Terms F M) (laws : Ord
   }
 
   -- labels tell which cover which
-  pub cover_test : IsCoverTest (search_of at_most t feed query)
+  pub cover_test : IsCoverTest (search_of task)
   cover_test = record {
-    itself = (cover_laws at_most laws).reflexive;
-    tells = covers-tells at_most;
-    fewer = λ x y is. (covers-tells at_most x y is).rides;
+    itself = (cover_laws task.at_most laws.order).reflexive;
+    tells = covers-tells task.at_most;
+    fewer = λ x y is. (covers-tells task.at_most x y is).rides;
   }

@@ -29,40 +29,40 @@ use Rattle.round_search.specs.Cuts.{IsCut}
 use Rattle.round_search.specs.Labels.{facts_of}
 use Rattle.round_search.specs.Searches.{IsSource, IsStartAmong, LeadsByFirst, SpreadsFrom, StepsBy, StepsByFirst, search_of}
 use Rattle.round_search.specs.Steps.{IsCaughtFrom, IsStep, facts_after, stand_of_facts, start_facts, ways}
+use Rattle.round_search.specs.Tasks.{HasLaws, Task}
 use Rattle.round_search.specs.Terms.{AreEnough, Covers, Facts, IsLawful, Terms}
 use Rattle.round_search.proofs.CutLaws.{cut_below}
 use Rattle.round_search.proofs.LawfulLaws.{covers-trans}
 use Rattle.plan_rides.proofs.StopLaws.{stands_inside}
 
-module _ {F M : Type 0} (at_most : F → F → Bool) (t : Terms F M) (laws : OrderLaws at_most) (lawful : IsLawful at_most t) (feed : FeedRows)
-    (query : Query) where
+module _ {F M : Type 0} (task : Task F M) (laws : HasLaws task) where
   -- ---- starts
 
   -- the label without rides at a first stop
   abbrev pub started : StopId → Label F M
   started first = record {
     stop = first;
-    arrival = query.departure;
+    arrival = task.query.departure;
     rides = 0;
-    fare = t.begins;
+    fare = task.terms.begins;
     parent = None;
     ride = None;
     taken = None;
   }
 
   -- a label of these parts is that one
-  pub start_is : (first : StopId) (at : Moment) (fare : F) → at ≡ query.departure → fare ≡ t.begins →
+  pub start_is : (first : StopId) (at : Moment) (fare : F) → at ≡ task.query.departure → fare ≡ task.terms.begins →
       ◌≡◌ {A = Label F M} (record { stop = first; arrival = at; rides = 0; fare = fare; parent = None; ride = None; taken = None })
       (started first)
   start_is first at fare p q = rw (p, q) refl
 
-  pub fresh_start : (first : StopId) → IsTrue (stands_for feed query.from first) →
-      IsFresh (search_of at_most t feed query) [] 0 (started first)
+  pub fresh_start : (first : StopId) → IsTrue (stands_for task.feed task.query.from first) →
+      IsFresh (search_of task) [] 0 (started first)
   fresh_start first stands = record {
     fits = record {
-      inside = stands_inside feed query.from first stands;
+      inside = stands_inside task.feed task.query.from first stands;
       within = record { since = omega (arith, ints); until = omega (arith, ints) };
-      fare = lawful.begins;
+      fare = laws.fares.begins;
     };
     counts = refl;
     linked = inl (record { starts = (stands, refl); begins = record { parent = refl; ride = refl; taken = refl } });
@@ -71,43 +71,43 @@ module _ {F M : Type 0} (at_most : F → F → Bool) (t : Terms F M) (laws : Ord
 
   -- one more of the first stops
   pub starts_one : (firsts : List StopId) (k : ℕ) (first : StopId) (b : Facts F) → slice_get firsts k ≡ Some first →
-      IsStartAmong t query firsts (k + 1) b → IsStartAmong t query firsts k b ⊎ (b ≡ start_facts t query first)
+      IsStartAmong task.terms task.query firsts (k + 1) b → IsStartAmong task.terms task.query firsts k b ⊎ (b ≡ start_facts task.terms task.query first)
   starts_one firsts k first b at among =
       let below = among.1 in
       ⊎_elim (λ lower. inl (among.0, lower, among.2, among.3, among.4))
       (λ upper. let same : among.0 ≡ k = omega (arith, below, upper) in
-      inr (among.4 ∙ ap (start_facts t query) (same_Some _ _ (sym among.3 ∙ ap (slice_get firsts) same ∙ at)))) (cases_lt among.0 k)
+      inr (among.4 ∙ ap (start_facts task.terms task.query) (same_Some _ _ (sym among.3 ∙ ap (slice_get firsts) same ∙ at)))) (cases_lt among.0 k)
 
   -- each start is at one of them
-  pub starts_among : (firsts : List StopId) (n : ℕ) (b : Facts F) → firsts ≡ stop_set feed query.from → length firsts ≤ n →
-      (ways at_most t feed query).Starts b → IsStartAmong t query firsts n b
+  pub starts_among : (firsts : List StopId) (n : ℕ) (b : Facts F) → firsts ≡ stop_set task.feed task.query.from → length firsts ≤ n →
+      (ways task).Starts b → IsStartAmong task.terms task.query firsts n b
   starts_among firsts n b is all start =
-      let member = member_of_stands_for feed query.from b.stop start.0 in
+      let member = member_of_stands_for task.feed task.query.from b.stop start.0 in
       let lt = member.1 in
       (member.0, omega (arith, lt, ap length is, all), b.stop, ap (λ ss. slice_get ss member.0) is ∙ member.2, start.1)
 
   -- ---- rides
 
   -- each ride by which labels go on is caught in time
-  pub in_time_of : (a : Facts F) (ride : Ride) (facts : RideFacts) → IsCaughtFrom feed query (stand_of_facts a) a.rides ride facts →
-      next_in_time feed query (stand_of_facts a) ride ≡ Some (stand_at_end facts)
+  pub in_time_of : (a : Facts F) (ride : Ride) (facts : RideFacts) → IsCaughtFrom task.feed task.query (stand_of_facts a) a.rides ride facts →
+      next_in_time task.feed task.query (stand_of_facts a) ride ≡ Some (stand_at_end facts)
   unfolding next_in_time next_stand
   in_time_of a ride facts c = rw (c.is, c.caught, le-int_le _ _ c.in_time) refl
 
-  module _ (source : Source F M) (is : IsSource t feed query source) where
+  module _ (source : Source F M) (is : IsSource task source) where
     abbrev from : Label F M
     from = source.label.now
 
-    module _ (caught : CaughtRide) (right : IsRight feed query (stand_of_facts (facts_of source.label.now)) caught) where
+    module _ (caught : CaughtRide) (right : IsRight task.feed task.query (stand_of_facts (facts_of source.label.now)) caught) where
       -- a ride that is caught in time is one by which labels go on
-      rides_by : IsCaughtFrom feed query (stand_of_facts (facts_of from)) from.rides caught.ride caught.facts
+      rides_by : IsCaughtFrom task.feed task.query (stand_of_facts (facts_of from)) from.rides caught.ride caught.facts
       rides_by =
-          let c = caught_ride feed query (stand_of_facts (facts_of from)) caught.ride (stand_at_end caught.facts) right.next in
+          let c = caught_ride task.feed task.query (stand_of_facts (facts_of from)) caught.ride (stand_at_end caught.facts) right.next in
           let same : c.facts ≡ caught.facts = same_Some _ _ (sym c.is ∙ right.facts) in
           record {
             is = right.facts;
             few = is.few;
-            caught = subst (λ (f : RideFacts). is_caught from.arrival.0 (way_to feed query (stand_of_facts (facts_of from)) f.from) f ≡ true) same
+            caught = subst (λ (f : RideFacts). is_caught from.arrival.0 (way_to task.feed task.query (stand_of_facts (facts_of from)) f.from) f ≡ true) same
                 (rw c.way_is (le-int_le _ _ c.catches));
             in_time = c.in_time;
           }
@@ -118,14 +118,14 @@ module _ {F M : Type 0} (at_most : F → F → Bool) (t : Terms F M) (laws : Ord
         stop = caught.facts.to;
         arrival = caught.facts.arrival;
         rides = from.rides + 1;
-        fare = t.after (facts_of from) caught.facts move;
+        fare = task.terms.after (facts_of from) caught.facts move;
         parent = Some source.number;
         ride = Some caught.ride;
         taken = Some move;
       }
 
       -- a label of these parts is that one
-      pub after_is : (move : M) (fare : F) → fare ≡ t.after (facts_of from) caught.facts move →
+      pub after_is : (move : M) (fare : F) → fare ≡ task.terms.after (facts_of from) caught.facts move →
           ◌≡◌ {A = Label F M}
           (record {
             stop = caught.facts.to;
@@ -138,17 +138,17 @@ module _ {F M : Type 0} (at_most : F → F → Bool) (t : Terms F M) (laws : Ord
           }) (went_on move)
       after_is move fare is = rw is refl
 
-      pub step_after : (move : M) → t.Pays (facts_of from) caught.facts move →
-          IsStep t feed query (facts_of from) caught.ride move (facts_of (went_on move))
+      pub step_after : (move : M) → task.terms.Pays (facts_of from) caught.facts move →
+          IsStep task (facts_of from) caught.ride move (facts_of (went_on move))
       step_after move pays = record { fare = is.fit.fare; facts = caught.facts; rides = rides_by; pays = pays; next = refl }
 
-      pub fresh_after : (move : M) → IsSoundFeed feed → t.Pays (facts_of from) caught.facts move →
-          IsFresh (search_of at_most t feed query) source.labels.now (from.rides + 1) (went_on move)
+      pub fresh_after : (move : M) → IsSoundFeed task.feed → task.terms.Pays (facts_of from) caught.facts move →
+          IsFresh (search_of task) source.labels.now (from.rides + 1) (went_on move)
       fresh_after move sound pays = record {
         fits = record {
-          inside = ride_end feed caught.ride caught.facts sound right.facts;
-          within = caught_within feed query (stand_of_facts (facts_of from)) caught.ride (stand_at_end caught.facts) sound is.fit.within right.next;
-          fare = lawful.stays (facts_of from) caught.facts move is.fit.fare pays;
+          inside = ride_end task.feed caught.ride caught.facts sound right.facts;
+          within = caught_within task.feed task.query (stand_of_facts (facts_of from)) caught.ride (stand_at_end caught.facts) sound is.fit.within right.next;
+          fare = laws.fares.stays (facts_of from) caught.facts move is.fit.fare pays;
         };
         counts = refl;
         linked = inr (record {
@@ -165,20 +165,20 @@ module _ {F M : Type 0} (at_most : F → F → Bool) (t : Terms F M) (laws : Ord
 
       -- one more of the moves
       pub leads_more : (moves : List M) (k : ℕ) (move : M) (b : Facts F) → slice_get moves k ≡ Some move →
-          LeadsByFirst t (facts_of from) caught moves (k + 1) b →
-          LeadsByFirst t (facts_of from) caught moves k b ⊎ (b ≡ facts_after t (facts_of from) caught.facts move)
+          LeadsByFirst task.terms (facts_of from) caught moves (k + 1) b →
+          LeadsByFirst task.terms (facts_of from) caught moves k b ⊎ (b ≡ facts_after task.terms (facts_of from) caught.facts move)
       leads_more moves k move b at leads =
           let below = leads.1 in
           ⊎_elim (λ lower. inl (leads.0, lower, leads.2, leads.3, leads.4))
           (λ upper. let same : leads.0 ≡ k = omega (arith, below, upper) in
-          inr (leads.4 ∙ ap (λ m. facts_after t (facts_of from) caught.facts m)
+          inr (leads.4 ∙ ap (λ m. facts_after task.terms (facts_of from) caught.facts m)
           (same_Some _ _ (sym leads.3 ∙ ap (slice_get moves) same ∙ at)))) (cases_lt leads.0 k)
 
       -- the moves were enough: what the ride leads to by any is held where what it leads to by each of them is
       pub spreads_by : (finals : List Final) (moves : List M) (n : ℕ) (old new : List (Label F M)) →
-          AreEnough at_most t (facts_of from) caught.facts moves → length moves ≤ n →
-          SpreadsFrom at_most t feed query finals source (LeadsByFirst t (facts_of from) caught moves n) old new →
-          SpreadsFrom at_most t feed query finals source (StepsBy t feed query (facts_of from) caught.ride) old new
+          AreEnough task.at_most task.terms (facts_of from) caught.facts moves → length moves ≤ n →
+          SpreadsFrom task finals source (LeadsByFirst task.terms (facts_of from) caught moves n) old new →
+          SpreadsFrom task finals source (StepsBy task (facts_of from) caught.ride) old new
       spreads_by finals moves n old new enough all spreads = record {
         still = spreads.still;
         kept = spreads.kept;
@@ -186,17 +186,17 @@ module _ {F M : Type 0} (at_most : F → F → Bool) (t : Terms F M) (laws : Ord
         all = λ b by. held b by;
       }
         where
-          below_step : (b : Facts F) (by : StepsBy t feed query (facts_of from) caught.ride b) →
-              (lesser : M) × Contains moves lesser × Covers at_most (facts_after t (facts_of from) caught.facts lesser) b
+          below_step : (b : Facts F) (by : StepsBy task (facts_of from) caught.ride b) →
+              (lesser : M) × Contains moves lesser × Covers task.at_most (facts_after task.terms (facts_of from) caught.facts lesser) b
           below_step b by =
               let step = by.1 in
               let same : step.facts ≡ caught.facts = same_Some _ _ (sym step.rides.is ∙ right.facts) in
-              let pays = subst (λ (f : RideFacts). t.Pays (facts_of from) f by.0) same step.pays in
+              let pays = subst (λ (f : RideFacts). task.terms.Pays (facts_of from) f by.0) same step.pays in
               let lesser = enough.enough by.0 pays in
-              let next = step.next ∙ ap (λ (f : RideFacts). facts_after t (facts_of from) f by.0) same in (
+              let next = step.next ∙ ap (λ (f : RideFacts). facts_after task.terms (facts_of from) f by.0) same in (
                 lesser.0,
                 lesser.1,
-                subst (Covers at_most (facts_after t (facts_of from) caught.facts lesser.0)) (sym next) (record {
+                subst (Covers task.at_most (facts_after task.terms (facts_of from) caught.facts lesser.0)) (sym next) (record {
                   stop = refl;
                   arrival = omega (arith, ints);
                   rides = omega arith;
@@ -205,23 +205,23 @@ module _ {F M : Type 0} (at_most : F → F → Bool) (t : Terms F M) (laws : Ord
                 }),
               )
 
-          held : (b : Facts F) → StepsBy t feed query (facts_of from) caught.ride b →
-              IsHeldBelow (Covers at_most) facts_of new b ⊎ IsCut t finals b
+          held : (b : Facts F) → StepsBy task (facts_of from) caught.ride b →
+              IsHeldBelow (Covers task.at_most) facts_of new b ⊎ IsCut task.terms finals b
           held b by =
               let some = below_step b by in
               let at = slice_get-Contains moves some.0 some.1 in
               let lt = slice_get_within moves at.0 some.0 at.1 in
-              ⊎_elim (λ h. inl (h.0, h.1, covers-trans at_most t laws lawful feed query (facts_of h.0) (facts_after t (facts_of from) caught.facts some.0) b h.2 some.2))
-              (λ cut. inr (cut_below at_most t laws lawful feed query finals (facts_after t (facts_of from) caught.facts some.0) b some.2 cut))
-              (spreads.all (facts_after t (facts_of from) caught.facts some.0) (at.0, omega (arith, lt, all), some.0, at.1, refl))
+              ⊎_elim (λ h. inl (h.0, h.1, covers-trans task laws (facts_of h.0) (facts_after task.terms (facts_of from) caught.facts some.0) b h.2 some.2))
+              (λ cut. inr (cut_below task laws finals (facts_after task.terms (facts_of from) caught.facts some.0) b some.2 cut))
+              (spreads.all (facts_after task.terms (facts_of from) caught.facts some.0) (at.0, omega (arith, lt, all), some.0, at.1, refl))
 
     -- one more of the rides
     pub rides_more : (rides : List CaughtRide) (k : ℕ) (caught : CaughtRide) (b : Facts F) → slice_get rides k ≡ Some caught →
-        StepsByFirst t feed query (facts_of from) rides (k + 1) b →
-        StepsByFirst t feed query (facts_of from) rides k b ⊎ StepsBy t feed query (facts_of from) caught.ride b
+        StepsByFirst task (facts_of from) rides (k + 1) b →
+        StepsByFirst task (facts_of from) rides k b ⊎ StepsBy task (facts_of from) caught.ride b
     rides_more rides k caught b at steps =
         let below = steps.1 in
         ⊎_elim (λ lower. inl (steps.0, lower, steps.2, steps.3, steps.4))
         (λ upper. let same : steps.0 ≡ k = omega (arith, below, upper) in
-        inr (subst (λ (c : CaughtRide). StepsBy t feed query (facts_of from) c.ride b)
+        inr (subst (λ (c : CaughtRide). StepsBy task (facts_of from) c.ride b)
         (same_Some _ _ (sym steps.3 ∙ ap (slice_get rides) same ∙ at)) steps.4)) (cases_lt steps.0 k)

@@ -29,11 +29,12 @@ use Rattle.round_search.specs.Terms.{IsLawful, Terms}
 use Rattle.round_search.proofs.CutLaws.{cuts}
 use Rattle.round_search.proofs.FinalLaws.{bettered_up}
 use Rattle.round_search.proofs.LawfulLaws.{cover_test, ways_lawful}
+use Rattle.round_search.specs.Tasks.{HasLaws, Task}
 
 -- labels that fit, with no more rides than the query's limit, may end
-pub ending_of : {F M : Type 0} (t : Terms F M) (feed : FeedRows) (query : Query) (labels : List (Label F M)) → IsUsualQuery query →
-    All (λ (x : Label F M). x.rides ≤ query.rides) labels → All (IsFit t feed query) labels → AreEnding t feed query labels
-ending_of t feed query labels usual few fit = record { usual = usual; few = few; fit = fit }
+pub ending_of : {F M : Type 0} (task : Task F M) (labels : List (Label F M)) → IsUsualQuery task.query →
+    All (λ (x : Label F M). x.rides ≤ task.query.rides) labels → All (IsFit task) labels → AreEnding task labels
+ending_of task labels usual few fit = record { usual = usual; few = few; fit = fit }
 
 -- what is gathered has so many rides
 pub gathered_rides : {F M : Type 0} (rides : ℕ) (bags : List (Label F M)) → All (λ (x : Label F M). x.rides ≡ rides) (gathered rides bags)
@@ -49,33 +50,32 @@ last_first {F} {M} labels none = record {
   before = λ i x at early. absurd (omega (arith, early));
 }
 
-module _ {F M : Type 0} (at_most : F → F → Bool) (t : Terms F M) (laws : OrderLaws at_most) (lawful : IsLawful at_most t)
-    (feed : FeedRows) (query : Query) where
+module _ {F M : Type 0} (task : Task F M) (laws : HasLaws task) where
   module _ (begin : ℕ) (labels bags : List (Label F M)) (finals : List Final)
-      (are : IsGathered at_most t feed query query.rides begin labels bags finals) where
-    whole : AreWhole (search_of at_most t feed query) (IsCut t finals) query.rides labels
+      (are : IsGathered task task.query.rides begin labels bags finals) where
+    whole : AreWhole (search_of task) (IsCut task.terms finals) task.query.rides labels
     whole =
-        whole_of (search_of at_most t feed query) (cover_test at_most t laws lawful feed query) (query.rides + 1) labels bags are.stored
-        (IsCut t finals) query.rides (omega arith) are.apart are.closed are.starts (λ x ride move b step. step.rides.few)
+        whole_of (search_of task) (cover_test task laws) (task.query.rides + 1) labels bags are.stored
+        (IsCut task.terms finals) task.query.rides (omega arith) are.apart are.closed are.starts (λ x ride move b step. step.rides.few)
 
-    ended : (x : Label F M) (last : StopId) (triple : Triple) → Contains labels x → IsEnd t feed query (facts_of x) last triple →
+    ended : (x : Label F M) (last : StopId) (triple : Triple) → Contains labels x → IsEnd task (facts_of x) last triple →
         is_bettered finals triple
     ended x last triple at end =
         let place = slice_get-Contains labels x at in
         are.ended.all triple (place.0, slice_get_within labels place.0 x place.1, x, place.1, (last, end))
 
     -- after all rounds all is found
-    pub searched_of : IsSoundFeed feed → IsSearched at_most t feed query labels finals
+    pub searched_of : IsSoundFeed task.feed → IsSearched task labels finals
     searched_of sound = record {
       whole = whole;
-      right = are.ended.right (All-nil (IsFinal t feed query labels));
+      right = are.ended.right (All-nil (IsFinal task labels));
       all = λ n a last triple reached end.
           let more =
-          whole_weaker (search_of at_most t feed query) (IsCut t finals)
-          (MayLack (ways at_most t feed query) (Cuts t) true (is_bettered finals)) query.rides labels
-          (λ b cut. (least_end t b, cut, at_most-refl (least_end t b))) whole in
-          each_found (ways at_most t feed query) (ways_lawful at_most t laws lawful feed query) (told t feed query) (Cuts t)
-          (cuts at_most t laws lawful feed query sound)
+          whole_weaker (search_of task) (IsCut task.terms finals)
+          (MayLack (ways task) (Cuts task.terms) true (is_bettered finals)) task.query.rides labels
+          (λ b cut. (least_end task.terms b, cut, at_most-refl (least_end task.terms b))) whole in
+          each_found (ways task) (ways_lawful task laws) (told task) (Cuts task.terms)
+          (cuts task laws sound)
           (is_bettered finals) (λ s worse le found. bettered_up finals s worse found le) true labels more.linked more.starts more.closed
           ended n a last triple reached end;
     }

@@ -17,23 +17,24 @@ use Rattle.round_search.specs.Scans.{IsOrigin}
 use Rattle.round_search.specs.Searches.{AreLast, IsFit, StepsTo, StepsWithin, search_of, told}
 use Rattle.round_search.specs.Steps.{stand_of_facts, ways}
 use Rattle.round_search.specs.Terms.{Facts, Terms}
+use Rattle.round_search.specs.Tasks.{Task}
 
-module _ {F M : Type 0} (at_most : F → F → Bool) (t : Terms F M) (feed : FeedRows) (query : Query) where
+module _ {F M : Type 0} (task : Task F M) where
   -- a label without rides stands at a first stop
-  first_of : (before : List (Label F M)) (x : Label F M) → IsLinked (ways at_most t feed query) (told t feed query) before x → x.rides ≡ 0 →
-      (first : StopId) × IsTrue (stands_for feed query.from first) × (stand_of_facts (facts_of x) ≡ first_stand query first)
+  first_of : (before : List (Label F M)) (x : Label F M) → IsLinked (ways task) (told task) before x → x.rides ≡ 0 →
+      (first : StopId) × IsTrue (stands_for task.feed task.query.from first) × (stand_of_facts (facts_of x) ≡ first_stand task.query first)
   first_of before x (inl start) none = (x.stop, start.starts.0, ap stand_of_facts start.starts.1)
   first_of before x (inr next) none =
       let more = ap (λ (f : Facts F). f.rides) next.step.next in
       absurd (omega (arith, more, none))
 
   -- a round goes on from a stored label that has fewer rides than the query's limit
-  pub origin_is : (number : ℕ) (x : Label F M) (count : ℕ) (labels bags : List (Label F M)) → count < query.rides →
-      AreStored (search_of at_most t feed query) (count + 1) labels bags → slice_get labels number ≡ Some x → x.rides ≡ count →
-      IsOrigin t feed query x
+  pub origin_is : (number : ℕ) (x : Label F M) (count : ℕ) (labels bags : List (Label F M)) → count < task.query.rides →
+      AreStored (search_of task) (count + 1) labels bags → slice_get labels number ≡ Some x → x.rides ≡ count →
+      IsOrigin task x
   origin_is number x count labels bags few stored at counts = record {
     few = omega (arith, few, counts);
-    fit = All-slice_get (IsFit t feed query) labels number x at stored.fit;
+    fit = All-slice_get (IsFit task) labels number x at stored.fit;
     may = record {
       some = omega (arith, few);
       one = λ one. first_of (take number labels) x (stored.linked number x at) (omega (arith, one, few, counts));
@@ -43,17 +44,17 @@ module _ {F M : Type 0} (at_most : F → F → Bool) (t : Terms F M) (feed : Fee
   module _ (labels : List (Label F M)) (begin : ℕ) where
     -- one label more
     pub within_more : (n : ℕ) (x : Label F M) (b : Facts F) → slice_get labels n ≡ Some x →
-        StepsWithin t feed query labels begin (n + 1) b → StepsWithin t feed query labels begin n b ⊎ StepsTo t feed query (facts_of x) b
+        StepsWithin task labels begin (n + 1) b → StepsWithin task labels begin n b ⊎ StepsTo task (facts_of x) b
     within_more n x b at steps =
         let below = steps.2 in
         ⊎_elim (λ lower. inl (steps.0, steps.1, lower, steps.3, steps.4, steps.5))
         (λ upper. let same : steps.0 ≡ n = omega (arith, below, upper) in
-        inr (subst (λ (y : Label F M). StepsTo t feed query (facts_of y) b) (same_Some _ _ (sym steps.4 ∙ ap (slice_get labels) same ∙ at)) steps.5))
+        inr (subst (λ (y : Label F M). StepsTo task (facts_of y) b) (same_Some _ _ (sym steps.4 ∙ ap (slice_get labels) same ∙ at)) steps.5))
         (cases_lt steps.0 n)
 
     -- each step from a label with so many rides is one from them
     pub within_all : (rides n : ℕ) (b : Facts F) → AreLast rides begin labels → length labels ≤ n →
-        StepsFrom (search_of at_most t feed query) labels rides b → StepsWithin t feed query labels begin n b
+        StepsFrom (search_of task) labels rides b → StepsWithin task labels begin n b
     within_all rides n b last all from =
         let at = slice_get-Contains labels from.0 from.1 in
         let lt = slice_get_within labels at.0 from.0 at.1 in

@@ -3,6 +3,7 @@ use Rattle.std.specs.Prelude.{◌≡◌, ℕ, ◌==◌, nat_eq, Bool, List, [], 
 use Rattle.label_bag.specs.Bags.{AreApart}
 use Rattle.label_bag.specs.Flights.{IsFlight}
 use Rattle.plain_laws.specs.Plain.{joined_below}
+use Rattle.feed_rows.specs.FeedRows.{FeedRows}
 use Rattle.search_laws.specs.Stores.{gathered as gathered_by}
 use Rattle.round_search.specs.declared.label.Label.{Label}
 use Rattle.round_search.specs.Labels.{covers}
@@ -24,6 +25,14 @@ AreBags at_most bags = (stop : ℕ) → IsBag at_most stop (bag_at bags stop)
 -- the labels of all bags
 abbrev pub in_bags : {F M : Type 0} → List (List (Label F M)) → List (Label F M)
 in_bags bags = joined_below (length bags) (bag_at bags)
+
+-- there is a bag for each stop of the feed
+abbrev pub AreForStops : {F M : Type 0} → FeedRows → List (List (Label F M)) → Type 0
+AreForStops feed bags = length bags ≡ length feed.stops
+
+-- there still is
+abbrev pub StayForStops : {F M : Type 0} → List (List (Label F M)) → List (List (Label F M)) → Type 0
+StayForStops old new = length new ≡ length old
 
 -- those with so many rides
 abbrev pub has_rides : {F M : Type 0} → ℕ → Label F M → Bool

@@ -1,4 +1,5 @@
 pub mod Terms
+pub mod Tasks
 pub mod Labels
 pub mod CoverLaws
 pub mod Bags

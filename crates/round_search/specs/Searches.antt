@@ -20,22 +20,15 @@ use Rattle.round_search.specs.Finals.{AddsEnds, EndsBelow, IsFinal, is_bettered}
 use Rattle.round_search.specs.Labels.{covers, facts_of}
 use Rattle.round_search.specs.Steps.{IsEnd, IsStep, facts_after, stand_of_facts, start_facts, ways}
 use Rattle.round_search.specs.Terms.{Facts, Terms}
-
--- ---- what is asked
-
--- a tariff, and a query over a feed
-pub record Asked (S : Type 0) : Type 0 where
-  pub tariff : S
-  pub feed : FeedRows
-  pub query : Query
+use Rattle.round_search.specs.Tasks.{Task}
 
 -- ---- the search
 
 -- the label is at a stop of the feed and within the query's window, and has such a fare
-pub record IsFit {F M : Type 0} (t : Terms F M) (feed : FeedRows) (query : Query) (x : Label F M) : Type 0 where
-  pub inside : x.stop.0 < length feed.stops
-  pub within : IsWithinWindow query x.arrival.0
-  pub fare : t.IsFare x.rides x.fare
+pub record IsFit {F M : Type 0} (task : Task F M) (x : Label F M) : Type 0 where
+  pub inside : x.stop.0 < length task.feed.stops
+  pub within : IsWithinWindow task.query x.arrival.0
+  pub fare : task.terms.IsFare x.rides x.fare
 
 -- the label has neither a parent nor a ride
 pub record IsBare {F M : Type 0} (x : Label F M) : Type 0 where
@@ -50,22 +43,22 @@ pub record GoesOn {F M : Type 0} (x : Label F M) (number : ℕ) (by : Ride) (mov
   pub taken : x.taken ≡ Some move
 
 -- what labels tell
-abbrev pub told : {F M : Type 0} → Terms F M → FeedRows → Query → Told (Label F M) (Facts F) Ride M
-told t feed query = record {
+abbrev pub told : {F M : Type 0} → Task F M → Told (Label F M) (Facts F) Ride M
+told task = record {
   facts = facts_of;
   count = λ x. x.rides;
-  Fits = IsFit t feed query;
+  Fits = IsFit task;
   Begins = IsBare;
   GoesOn = GoesOn;
 }
 
 -- the search by such terms; of ends that cut its labels off nothing is asked, since labels may lack what is cut off, and needn't
-abbrev pub search_of : {F M : Type 0} → (F → F → Bool) → Terms F M → FeedRows → Query →
+abbrev pub search_of : {F M : Type 0} → Task F M →
     Search (Label F M) (Facts F) Ride M StopId Triple
-search_of at_most t feed query = record {
-  ways = ways at_most t feed query;
-  told = told t feed query;
-  covers = covers at_most;
+search_of task = record {
+  ways = ways task;
+  told = told task;
+  covers = covers task.at_most;
   Cuts = λ triple a. ⊥;
 }
 
@@ -80,16 +73,16 @@ abbrev pub IsStartAmong : {F M : Type 0} → Terms F M → Query → List StopId
 IsStartAmong t query firsts k b = (i : ℕ) × (i < k) × (stop : StopId) × (slice_get firsts i ≡ Some stop) × (b ≡ start_facts t query stop)
 
 -- the one leads to the other by some ride and move, or by this ride
-abbrev pub StepsTo : {F M : Type 0} → Terms F M → FeedRows → Query → Facts F → Facts F → Type 0
-StepsTo {F} {M} t feed query a b = (ride : Ride) × (move : M) × IsStep t feed query a ride move b
+abbrev pub StepsTo : {F M : Type 0} → Task F M → Facts F → Facts F → Type 0
+StepsTo {F} {M} task a b = (ride : Ride) × (move : M) × IsStep task a ride move b
 
-abbrev pub StepsBy : {F M : Type 0} → Terms F M → FeedRows → Query → Facts F → Ride → Facts F → Type 0
-StepsBy {F} {M} t feed query a ride b = (move : M) × IsStep t feed query a ride move b
+abbrev pub StepsBy : {F M : Type 0} → Task F M → Facts F → Ride → Facts F → Type 0
+StepsBy {F} {M} task a ride b = (move : M) × IsStep task a ride move b
 
 -- it does by one of the first k of these rides
-abbrev pub StepsByFirst : {F M : Type 0} → Terms F M → FeedRows → Query → Facts F → List CaughtRide → ℕ → Facts F → Type 0
-StepsByFirst t feed query a rides k b =
-    (i : ℕ) × (i < k) × (caught : CaughtRide) × (slice_get rides i ≡ Some caught) × StepsBy t feed query a caught.ride b
+abbrev pub StepsByFirst : {F M : Type 0} → Task F M → Facts F → List CaughtRide → ℕ → Facts F → Type 0
+StepsByFirst task a rides k b =
+    (i : ℕ) × (i < k) × (caught : CaughtRide) × (slice_get rides i ≡ Some caught) × StepsBy task a caught.ride b
 
 -- it does by the ride and one of the first k of these moves
 abbrev pub LeadsByFirst : {F M : Type 0} → Terms F M → Facts F → CaughtRide → List M → ℕ → Facts F → Type 0
@@ -97,19 +90,19 @@ LeadsByFirst {F} {M} t a caught moves k b =
     (i : ℕ) × (i < k) × (move : M) × (slice_get moves i ≡ Some move) × (b ≡ facts_after t a caught.facts move)
 
 -- a step leads there from one of the labels from the one number on to another
-abbrev pub StepsWithin : {F M : Type 0} → Terms F M → FeedRows → Query → List (Label F M) → ℕ → ℕ → Facts F → Type 0
-StepsWithin {F} {M} t feed query labels begin end b =
-    (i : ℕ) × (begin ≤ i) × (i < end) × (x : Label F M) × (slice_get labels i ≡ Some x) × StepsTo t feed query (facts_of x) b
+abbrev pub StepsWithin : {F M : Type 0} → Task F M → List (Label F M) → ℕ → ℕ → Facts F → Type 0
+StepsWithin {F} {M} task labels begin end b =
+    (i : ℕ) × (begin ≤ i) × (i < end) × (x : Label F M) × (slice_get labels i ≡ Some x) × StepsTo task (facts_of x) b
 
 -- ---- labels from which a round goes on
 
 -- the label has the number among the labels, one more ride is within the query's limit, and it may ride
-pub record IsSource {F M : Type 0} (t : Terms F M) (feed : FeedRows) (query : Query) (source : Source F M) : Type 0 where
+pub record IsSource {F M : Type 0} (task : Task F M) (source : Source F M) : Type 0 where
   pub is : slice_get source.labels.now source.number ≡ Some source.label.now
-  pub usual : IsUsualQuery query
-  pub few : source.label.now.rides < query.rides
-  pub fit : IsFit t feed query source.label.now
-  pub may : MayRide feed query (stand_of_facts (facts_of source.label.now))
+  pub usual : IsUsualQuery task.query
+  pub few : source.label.now.rides < task.query.rides
+  pub fit : IsFit task source.label.now
+  pub may : MayRide task.feed task.query (stand_of_facts (facts_of source.label.now))
 
 -- those with so many rides are the labels from the number on
 pub record AreLast {F M : Type 0} (rides begin : ℕ) (labels : List (Label F M)) : Type 0 where
@@ -118,45 +111,45 @@ pub record AreLast {F M : Type 0} (rides begin : ℕ) (labels : List (Label F M)
   pub before : (i : ℕ) (x : Label F M) → slice_get labels i ≡ Some x → i < begin → x.rides < rides
 
 -- the bags gain what covers this part but for what the finals cut off, with one ride more than the source
-abbrev pub SpreadsFrom : {F M : Type 0} → (F → F → Bool) → Terms F M → FeedRows → Query → List Final → Source F M → (Facts F → Type 0) →
+abbrev pub SpreadsFrom : {F M : Type 0} → Task F M → List Final → Source F M → (Facts F → Type 0) →
     List (Label F M) → List (Label F M) → Type 0
-SpreadsFrom at_most t feed query finals source Part old new =
-    Spreads (search_of at_most t feed query) (IsCut t finals) source.labels.now (source.label.now.rides + 1) Part old new
+SpreadsFrom task finals source Part old new =
+    Spreads (search_of task) (IsCut task.terms finals) source.labels.now (source.label.now.rides + 1) Part old new
 
 -- ---- labels that end
 
 -- the label has the number among the labels, and no more rides than the query's limit
-pub record IsEnding {F M : Type 0} (t : Terms F M) (feed : FeedRows) (query : Query) (source : Source F M) : Type 0 where
+pub record IsEnding {F M : Type 0} (task : Task F M) (source : Source F M) : Type 0 where
   pub is : slice_get source.labels.now source.number ≡ Some source.label.now
-  pub usual : IsUsualQuery query
-  pub few : source.label.now.rides ≤ query.rides
-  pub fit : IsFit t feed query source.label.now
+  pub usual : IsUsualQuery task.query
+  pub few : source.label.now.rides ≤ task.query.rides
+  pub fit : IsFit task source.label.now
 
 -- so do all of these, but that any number counts
-pub record AreEnding {F M : Type 0} (t : Terms F M) (feed : FeedRows) (query : Query) (labels : List (Label F M)) : Type 0 where
-  pub usual : IsUsualQuery query
-  pub few : All (λ (x : Label F M). x.rides ≤ query.rides) labels
-  pub fit : All (IsFit t feed query) labels
+pub record AreEnding {F M : Type 0} (task : Task F M) (labels : List (Label F M)) : Type 0 where
+  pub usual : IsUsualQuery task.query
+  pub few : All (λ (x : Label F M). x.rides ≤ task.query.rides) labels
+  pub fit : All (IsFit task) labels
 
 -- ---- what a search holds after some rounds
 
 -- the labels with up to so many rides are those in the bags; they cover the starts, and all that leads on from those with fewer
 -- rides; the last of them begin at the number; and the finals are what they end in
-pub record IsGathered {F M : Type 0} (at_most : F → F → Bool) (t : Terms F M) (feed : FeedRows) (query : Query) (rides begin : ℕ)
+pub record IsGathered {F M : Type 0} (task : Task F M) (rides begin : ℕ)
     (labels bags : List (Label F M)) (finals : List Final) : Type 0 where
-  pub stored : AreStored (search_of at_most t feed query) (rides + 1) labels bags
-  pub apart : AreApart (covers at_most) bags
-  pub closed : AreClosedTo (search_of at_most t feed query) (IsCut t finals) rides labels
-  pub starts : CoversStarts (ways at_most t feed query) (told t feed query) labels
-  pub ended : AddsEnds t feed query labels (EndsBelow t feed query labels (length labels)) [] finals
+  pub stored : AreStored (search_of task) (rides + 1) labels bags
+  pub apart : AreApart (covers task.at_most) bags
+  pub closed : AreClosedTo (search_of task) (IsCut task.terms finals) rides labels
+  pub starts : CoversStarts (ways task) (told task) labels
+  pub ended : AddsEnds task labels (EndsBelow task labels (length labels)) [] finals
   pub numbers : length labels < 2 ^ 32
   pub last : AreLast rides begin labels
 
 -- the labels of all rounds cover the starts and each step from each of them, and none covers another; the finals are what they end in,
 -- and so all in which ways of the search end
-pub record IsSearched {F M : Type 0} (at_most : F → F → Bool) (t : Terms F M) (feed : FeedRows) (query : Query)
+pub record IsSearched {F M : Type 0} (task : Task F M)
     (labels : List (Label F M)) (finals : List Final) : Type 0 where
-  pub whole : AreWhole (search_of at_most t feed query) (IsCut t finals) query.rides labels
-  pub right : All (IsFinal t feed query labels) finals
-  pub all : (n : ℕ) (a : Facts F) (last : StopId) (triple : Triple) → IsReached (ways at_most t feed query) n a →
-      IsEnd t feed query a last triple → is_bettered finals triple
+  pub whole : AreWhole (search_of task) (IsCut task.terms finals) task.query.rides labels
+  pub right : All (IsFinal task labels) finals
+  pub all : (n : ℕ) (a : Facts F) (last : StopId) (triple : Triple) → IsReached (ways task) n a →
+      IsEnd task a last triple → is_bettered finals triple

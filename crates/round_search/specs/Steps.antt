@@ -13,6 +13,7 @@ use Rattle.feed_rows.specs.Rides.{ride_facts}
 use Rattle.plan_rides.specs.InTime.{deadline}
 use Rattle.search_laws.specs.Ways.{Ways}
 use Rattle.round_search.specs.Terms.{Covers, Facts, Terms}
+use Rattle.round_search.specs.Tasks.{Task}
 
 -- those of a journey without rides from this stop
 abbrev pub start_facts : {F M : Type 0} → Terms F M → Query → StopId → Facts F
@@ -35,29 +36,29 @@ pub record IsCaughtFrom (feed : FeedRows) (query : Query) (stand : Stand) (rides
   pub in_time : facts.arrival.0 ≤ℤ deadline query
 
 -- by the ride, which the move pays, the one goes on to the other
-pub record IsStep {F M : Type 0} (t : Terms F M) (feed : FeedRows) (query : Query) (a : Facts F) (ride : Ride) (move : M)
+pub record IsStep {F M : Type 0} (task : Task F M) (a : Facts F) (ride : Ride) (move : M)
     (b : Facts F) : Type 0 where
-  pub fare : t.IsFare a.rides a.fare
+  pub fare : task.terms.IsFare a.rides a.fare
   pub facts : RideFacts
-  pub rides : IsCaughtFrom feed query (stand_of_facts a) a.rides ride facts
-  pub pays : t.Pays a facts move
-  pub next : b ≡ facts_after t a facts move
+  pub rides : IsCaughtFrom task.feed task.query (stand_of_facts a) a.rides ride facts
+  pub pays : task.terms.Pays a facts move
+  pub next : b ≡ facts_after task.terms a facts move
 
 -- a journey that takes no ride more ends at this stop with this triple
-pub record IsEnd {F M : Type 0} (t : Terms F M) (feed : FeedRows) (query : Query) (a : Facts F) (last : StopId) (triple : Triple) : Type 0 where
-  pub ends : IsTrue (stands_for feed query.to last)
-  pub arrives : end_arrival feed query (stand_of_facts a) last ≡ Some triple.arrival.0
-  pub in_time : triple.arrival.0 ≤ℤ deadline query
+pub record IsEnd {F M : Type 0} (task : Task F M) (a : Facts F) (last : StopId) (triple : Triple) : Type 0 where
+  pub ends : IsTrue (stands_for task.feed task.query.to last)
+  pub arrives : end_arrival task.feed task.query (stand_of_facts a) last ≡ Some triple.arrival.0
+  pub in_time : triple.arrival.0 ≤ℤ deadline task.query
   pub rides : triple.rides ≡ a.rides
-  pub price : triple.price.0 ≡ t.price a.fare
+  pub price : triple.price.0 ≡ task.terms.price a.fare
 
 -- so a search goes on
-abbrev pub ways : {F M : Type 0} → (F → F → Bool) → Terms F M → FeedRows → Query → Ways (Facts F) Ride M StopId Triple
-ways at_most t feed query = record {
-  Starts = λ a. IsTrue (stands_for feed query.from a.stop) × (a ≡ start_facts t query a.stop);
-  Steps = IsStep t feed query;
-  Ends = IsEnd t feed query;
-  Covers = Covers at_most;
-  IsSound = λ a. t.IsFare a.rides a.fare;
+abbrev pub ways : {F M : Type 0} → Task F M → Ways (Facts F) Ride M StopId Triple
+ways task = record {
+  Starts = λ a. IsTrue (stands_for task.feed task.query.from a.stop) × (a ≡ start_facts task.terms task.query a.stop);
+  Steps = IsStep task;
+  Ends = IsEnd task;
+  Covers = Covers task.at_most;
+  IsSound = λ a. task.terms.IsFare a.rides a.fare;
   at_most = is_no_worse;
 }

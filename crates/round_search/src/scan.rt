@@ -4,11 +4,12 @@ ghost use Rattle.plan_rides.specs.Cutoffs.{cutoff_by, cutoff_of};
 ghost use Rattle.plan_rides.specs.InTime.{deadline};
 ghost use Rattle.plan_rides.specs.Reached.{AreKept, HoldsFrom, IsReachedFrom, none_kept};
 ghost use Rattle.search_laws.specs.Stores.{StepsFrom};
-ghost use Rattle.round_search.specs.Bags.{in_bags};
+ghost use Rattle.round_search.specs.Bags.{AreForStops, StayForStops, in_bags};
 ghost use Rattle.round_search.specs.Labels.{facts_of};
 ghost use Rattle.round_search.specs.Scans.{AddsMarks, AreReached, IsMarked, IsRound, SpreadsIn, StepsAt, StepsFromPosition};
 ghost use Rattle.round_search.specs.Searches.{IsSource, SpreadsFrom, search_of};
 ghost use Rattle.round_search.specs.Steps.{stand_of_facts};
+ghost use Rattle.round_search.specs.Tasks.{task_of};
 
 use crate::bags::StopBags;
 use crate::finals::Final;
@@ -70,9 +71,9 @@ impl<'s, 'l, T: Tariff> Search<'s, 'l, T> {
         source: &Source<T::Fare, T::Move>,
         reached: &mut Vec<Reached>,
     ) -> Result<(), AllocError>
-        requires round { IsRound (T.terms self.now.tariff) self.now.feed self.now.query round.now }
-        requires source { IsSource (T.terms self.now.tariff) self.now.feed self.now.query source.now }
-        ensures { OnOk result (AddsMarks (T.terms self.now.tariff) self.now.feed self.now.query round.now source.now reached.old.items reached.new.items) }
+        requires round { IsRound (task_of T.Fare.at_most T.terms self.now) round.now }
+        requires source { IsSource (task_of T.Fare.at_most T.terms self.now) source.now }
+        ensures { OnOk result (AddsMarks (task_of T.Fare.at_most T.terms self.now) round.now source.now reached.old.items reached.new.items) }
     {
         let who = Traveller {
             standing: standing(source.label),
@@ -87,8 +88,8 @@ impl<'s, 'l, T: Tariff> Search<'s, 'l, T> {
         round: &Round<'s, '_, T::Fare, T::Move>,
         reached: &mut Vec<Reached>,
     ) -> Result<(), AllocError>
-        requires { IsRound (T.terms self.now.tariff) self.now.feed self.now.query round.now }
-        ensures { OnOk result (AreReached (T.terms self.now.tariff) self.now.feed self.now.query round.now (length round.now.labels.now) reached.new.items) }
+        requires { IsRound (task_of T.Fare.at_most T.terms self.now) round.now }
+        ensures { OnOk result (AreReached (task_of T.Fare.at_most T.terms self.now) round.now (length round.now.labels.now) reached.new.items) }
     {
         reached.clear();
         for number in round.begin..round.labels.len() {
@@ -115,13 +116,13 @@ impl<'s, 'l, T: Tariff> Search<'s, 'l, T> {
         rides: &[CaughtRide],
         moves: &mut Vec<T::Move>,
     ) -> Result<(), AllocError>
-        requires round { IsRound (T.terms self.now.tariff) self.now.feed self.now.query round.now }
-        requires source { IsSource (T.terms self.now.tariff) self.now.feed self.now.query source.now }
+        requires round { IsRound (task_of T.Fare.at_most T.terms self.now) round.now }
+        requires source { IsSource (task_of T.Fare.at_most T.terms self.now) source.now }
         requires from { IsReachedFrom round.now.positions.now (stand_of_facts (facts_of source.now.label.now)) reached.now }
         requires holds { HoldsFrom round.now.positions.now (cutoff_by [] (deadline self.now.query)) reached.now rides.now }
-        requires stops { length bags.old ≡ length self.now.feed.stops }
-        ensures spreads { OnOk result (SpreadsFrom T.Fare.at_most (T.terms self.now.tariff) self.now.feed self.now.query round.now.finals.now source.now (StepsAt (T.terms self.now.tariff) self.now.feed self.now.query round.now.positions.now (facts_of source.now.label.now) reached.now) (in_bags bags.old) (in_bags bags.new)) }
-        ensures stops { OnOk result (length bags.new ≡ length bags.old) }
+        requires stops { AreForStops self.now.feed bags.old }
+        ensures spreads { OnOk result (SpreadsFrom (task_of T.Fare.at_most T.terms self.now) round.now.finals.now source.now (StepsAt (task_of T.Fare.at_most T.terms self.now) round.now.positions.now (facts_of source.now.label.now) reached.now) (in_bags bags.old) (in_bags bags.new)) }
+        ensures stops { OnOk result (StayForStops bags.old bags.new) }
     {
         for k in 0..rides.len() {
             let caught = &rides[k];
@@ -141,13 +142,13 @@ impl<'s, 'l, T: Tariff> Search<'s, 'l, T> {
         rides: &mut KeptRides,
         moves: &mut Vec<T::Move>,
     ) -> Result<(), AllocError>
-        requires round { IsRound (T.terms self.now.tariff) self.now.feed self.now.query round.now }
+        requires round { IsRound (task_of T.Fare.at_most T.terms self.now) round.now }
         requires marked { IsMarked round.now reached.now }
         requires kept { AreKept round.now.positions.now (cutoff_by [] (deadline self.now.query)) rides.old }
-        requires stops { length bags.old ≡ length self.now.feed.stops }
+        requires stops { AreForStops self.now.feed bags.old }
         ensures kept { OnOk result (AreKept round.now.positions.now (cutoff_by [] (deadline self.now.query)) rides.new) }
-        ensures spreads { OnOk result (SpreadsIn T.Fare.at_most (T.terms self.now.tariff) self.now.feed self.now.query round.now (StepsFromPosition (T.terms self.now.tariff) self.now.feed self.now.query round.now reached.now) (in_bags bags.old) (in_bags bags.new)) }
-        ensures stops { OnOk result (length bags.new ≡ length bags.old) }
+        ensures spreads { OnOk result (SpreadsIn (task_of T.Fare.at_most T.terms self.now) round.now (StepsFromPosition (task_of T.Fare.at_most T.terms self.now) round.now reached.now) (in_bags bags.old) (in_bags bags.new)) }
+        ensures stops { OnOk result (StayForStops bags.old bags.new) }
     {
         let any = self.any();
         round.positions.keep(rides, &any, &any, reached)?;
@@ -166,10 +167,10 @@ impl<'s, 'l, T: Tariff> Search<'s, 'l, T> {
         round: &Round<'s, '_, T::Fare, T::Move>,
         room: &mut Room<T::Move>,
     ) -> Result<(), AllocError>
-        requires round { IsRound (T.terms self.now.tariff) self.now.feed self.now.query round.now }
-        requires stops { length bags.old ≡ length self.now.feed.stops }
-        ensures spreads { OnOk result (SpreadsIn T.Fare.at_most (T.terms self.now.tariff) self.now.feed self.now.query round.now (StepsFrom (search_of T.Fare.at_most (T.terms self.now.tariff) self.now.feed self.now.query) round.now.labels.now round.now.count) (in_bags bags.old) (in_bags bags.new)) }
-        ensures stops { OnOk result (length bags.new ≡ length bags.old) }
+        requires round { IsRound (task_of T.Fare.at_most T.terms self.now) round.now }
+        requires stops { AreForStops self.now.feed bags.old }
+        ensures spreads { OnOk result (SpreadsIn (task_of T.Fare.at_most T.terms self.now) round.now (StepsFrom (search_of (task_of T.Fare.at_most T.terms self.now)) round.now.labels.now round.now.count) (in_bags bags.old) (in_bags bags.new)) }
+        ensures stops { OnOk result (StayForStops bags.old bags.new) }
     {
         self.mark(round, &mut room.reached)?;
         room.rides.clear();

@@ -8,11 +8,12 @@ ghost use Rattle.feed_timetable.specs.Standings.{stand_of};
 ghost use Rattle.label_bag.specs.Bags.{AreApart};
 ghost use Rattle.plan_rides.specs.InTime.{IsRight, IsUsualQuery};
 ghost use Rattle.search_laws.specs.Stores.{AreStored, AreWhole, Spreads, StepsFrom};
-ghost use Rattle.round_search.specs.Bags.{gathered, in_bags};
+ghost use Rattle.round_search.specs.Bags.{AreForStops, StayForStops, gathered, in_bags};
 ghost use Rattle.round_search.specs.Cuts.{IsCut, is_cut};
 ghost use Rattle.round_search.specs.Finals.{AddsEnds, EndsBelow, EndsIn};
 ghost use Rattle.round_search.specs.Labels.{covers, facts_of};
 ghost use Rattle.round_search.specs.Searches.{AreEnding, AreLast, IsGathered, IsNever, IsSearched, IsEnding, IsSource, SpreadsFrom, StepsBy, StepsTo, search_of};
+ghost use Rattle.round_search.specs.Tasks.{task_of};
 ghost use Rattle.round_search.specs.Steps.{IsEnd, facts_after, stand_of_facts, start_facts, ways};
 
 use crate::bags::StopBags;
@@ -37,7 +38,7 @@ pub struct Search<'s, 'l, T: Tariff> {
 }
 
 impl<'s, 'l, T: Tariff> Model for Search<'s, 'l, T> {
-    ghost use Rattle.round_search.specs.Searches.{Asked};
+    ghost use Rattle.round_search.specs.Tasks.{Asked};
 
     ghost Value = { Asked T };
 
@@ -121,9 +122,9 @@ impl<'s, 'l, T: Tariff> Search<'s, 'l, T> {
         bags: &mut StopBags<T::Fare, T::Move>,
     ) -> Result<(), AllocError>
         requires first { IsTrue (stands_for self.now.feed self.now.query.from first) }
-        requires stops { length bags.old ≡ length self.now.feed.stops }
-        ensures spreads { OnOk result (Spreads (search_of T.Fare.at_most (T.terms self.now.tariff) self.now.feed self.now.query) IsNever [] 0 (λ b. b ≡ start_facts (T.terms self.now.tariff) self.now.query first) (in_bags bags.old) (in_bags bags.new)) }
-        ensures stops { length bags.new ≡ length bags.old }
+        requires stops { AreForStops self.now.feed bags.old }
+        ensures spreads { OnOk result (Spreads (search_of (task_of T.Fare.at_most T.terms self.now)) IsNever [] 0 (λ b. b ≡ start_facts (T.terms self.now.tariff) self.now.query first) (in_bags bags.old) (in_bags bags.new)) }
+        ensures stops { StayForStops bags.old bags.new }
     {
         bags.offer(&Label {
             stop: first,
@@ -138,9 +139,9 @@ impl<'s, 'l, T: Tariff> Search<'s, 'l, T> {
 
     /// Offers the labels without rides.
     fn offer_starts(&self, bags: &mut StopBags<T::Fare, T::Move>) -> Result<(), AllocError>
-        requires { length bags.old ≡ length self.now.feed.stops }
-        ensures spreads { OnOk result (Spreads (search_of T.Fare.at_most (T.terms self.now.tariff) self.now.feed self.now.query) IsNever [] 0 ((ways T.Fare.at_most (T.terms self.now.tariff) self.now.feed self.now.query).Starts) (in_bags bags.old) (in_bags bags.new)) }
-        ensures stops { OnOk result (length bags.new ≡ length bags.old) }
+        requires { AreForStops self.now.feed bags.old }
+        ensures spreads { OnOk result (Spreads (search_of (task_of T.Fare.at_most T.terms self.now)) IsNever [] 0 ((ways (task_of T.Fare.at_most T.terms self.now)).Starts) (in_bags bags.old) (in_bags bags.new)) }
+        ensures stops { OnOk result (StayForStops bags.old bags.new) }
     {
         let firsts = self.firsts();
         for k in 0..firsts.len() {
@@ -175,12 +176,12 @@ impl<'s, 'l, T: Tariff> Search<'s, 'l, T> {
         caught: &CaughtRide,
         taken: &T::Move,
     ) -> Result<(), AllocError>
-        requires source { IsSource (T.terms self.now.tariff) self.now.feed self.now.query source.now }
+        requires source { IsSource (task_of T.Fare.at_most T.terms self.now) source.now }
         requires right { IsRight self.now.feed self.now.query (stand_of_facts (facts_of source.now.label.now)) caught.now }
         requires pays { (T.terms self.now.tariff).Pays (facts_of source.now.label.now) caught.now.facts taken.now }
-        requires stops { length bags.old ≡ length self.now.feed.stops }
-        ensures spreads { OnOk result (SpreadsFrom T.Fare.at_most (T.terms self.now.tariff) self.now.feed self.now.query finals.now source.now (λ b. b ≡ facts_after (T.terms self.now.tariff) (facts_of source.now.label.now) caught.now.facts taken.now) (in_bags bags.old) (in_bags bags.new)) }
-        ensures stops { length bags.new ≡ length bags.old }
+        requires stops { AreForStops self.now.feed bags.old }
+        ensures spreads { OnOk result (SpreadsFrom (task_of T.Fare.at_most T.terms self.now) finals.now source.now (λ b. b ≡ facts_after (T.terms self.now.tariff) (facts_of source.now.label.now) caught.now.facts taken.now) (in_bags bags.old) (in_bags bags.new)) }
+        ensures stops { StayForStops bags.old bags.new }
     {
         let _limit = self.limit();
         let _feed = self.feed();
@@ -209,11 +210,11 @@ impl<'s, 'l, T: Tariff> Search<'s, 'l, T> {
         caught: &CaughtRide,
         moves: &mut Vec<T::Move>,
     ) -> Result<(), AllocError>
-        requires source { IsSource (T.terms self.now.tariff) self.now.feed self.now.query source.now }
+        requires source { IsSource (task_of T.Fare.at_most T.terms self.now) source.now }
         requires right { IsRight self.now.feed self.now.query (stand_of_facts (facts_of source.now.label.now)) caught.now }
-        requires stops { length bags.old ≡ length self.now.feed.stops }
-        ensures spreads { OnOk result (SpreadsFrom T.Fare.at_most (T.terms self.now.tariff) self.now.feed self.now.query finals.now source.now (StepsBy (T.terms self.now.tariff) self.now.feed self.now.query (facts_of source.now.label.now) caught.now.ride) (in_bags bags.old) (in_bags bags.new)) }
-        ensures stops { OnOk result (length bags.new ≡ length bags.old) }
+        requires stops { AreForStops self.now.feed bags.old }
+        ensures spreads { OnOk result (SpreadsFrom (task_of T.Fare.at_most T.terms self.now) finals.now source.now (StepsBy (task_of T.Fare.at_most T.terms self.now) (facts_of source.now.label.now) caught.now.ride) (in_bags bags.old) (in_bags bags.new)) }
+        ensures stops { OnOk result (StayForStops bags.old bags.new) }
     {
         self.tariff.moves_into(source.label, &caught.facts, moves)?;
         for k in 0..moves.len() {
@@ -234,12 +235,12 @@ impl<'s, 'l, T: Tariff> Search<'s, 'l, T> {
         room: &mut Room<T::Move>,
     ) -> Result<(), AllocError>
         requires few { count < self.now.query.rides }
-        requires stored { AreStored (search_of T.Fare.at_most (T.terms self.now.tariff) self.now.feed self.now.query) (count + 1) labels.now (in_bags bags.old) }
+        requires stored { AreStored (search_of (task_of T.Fare.at_most T.terms self.now)) (count + 1) labels.now (in_bags bags.old) }
         requires last { AreLast count begin labels.now }
         requires numbers { length labels.now < 2 ^ 32 }
-        requires stops { length bags.old ≡ length self.now.feed.stops }
-        ensures spreads { OnOk result (Spreads (search_of T.Fare.at_most (T.terms self.now.tariff) self.now.feed self.now.query) (IsCut (T.terms self.now.tariff) front.now) labels.now (count + 1) (StepsFrom (search_of T.Fare.at_most (T.terms self.now.tariff) self.now.feed self.now.query) labels.now count) (in_bags bags.old) (in_bags bags.new)) }
-        ensures stops { OnOk result (length bags.new ≡ length bags.old) }
+        requires stops { AreForStops self.now.feed bags.old }
+        ensures spreads { OnOk result (Spreads (search_of (task_of T.Fare.at_most T.terms self.now)) (IsCut (T.terms self.now.tariff) front.now) labels.now (count + 1) (StepsFrom (search_of (task_of T.Fare.at_most T.terms self.now)) labels.now count) (in_bags bags.old) (in_bags bags.new)) }
+        ensures stops { OnOk result (StayForStops bags.old bags.new) }
     {
         let _limit = self.limit();
         let round = Round {
@@ -259,9 +260,9 @@ impl<'s, 'l, T: Tariff> Search<'s, 'l, T> {
         last: StopId,
         front: &mut Front<Final>,
     ) -> Result<(), AllocError>
-        requires source { IsEnding (T.terms self.now.tariff) self.now.feed self.now.query source.now }
+        requires source { IsEnding (task_of T.Fare.at_most T.terms self.now) source.now }
         requires ends { IsTrue (stands_for self.now.feed self.now.query.to last) }
-        ensures { OnOk result (AddsEnds (T.terms self.now.tariff) self.now.feed self.now.query source.now.labels.now (IsEnd (T.terms self.now.tariff) self.now.feed self.now.query (facts_of source.now.label.now) last) front.old front.new) }
+        ensures { OnOk result (AddsEnds (task_of T.Fare.at_most T.terms self.now) source.now.labels.now (IsEnd (task_of T.Fare.at_most T.terms self.now) (facts_of source.now.label.now) last) front.old front.new) }
     {
         let Some(arrival) = self.rides.arrival_in_time(standing(source.label), last) else {
             return Ok(());
@@ -283,8 +284,8 @@ impl<'s, 'l, T: Tariff> Search<'s, 'l, T> {
         source: &Source<T::Fare, T::Move>,
         front: &mut Front<Final>,
     ) -> Result<(), AllocError>
-        requires { IsEnding (T.terms self.now.tariff) self.now.feed self.now.query source.now }
-        ensures { OnOk result (AddsEnds (T.terms self.now.tariff) self.now.feed self.now.query source.now.labels.now (EndsIn (T.terms self.now.tariff) self.now.feed self.now.query source.now.label.now) front.old front.new) }
+        requires { IsEnding (task_of T.Fare.at_most T.terms self.now) source.now }
+        ensures { OnOk result (AddsEnds (task_of T.Fare.at_most T.terms self.now) source.now.labels.now (EndsIn (task_of T.Fare.at_most T.terms self.now) source.now.label.now) front.old front.new) }
     {
         let lasts = self.lasts();
         for k in 0..lasts.len() {
@@ -300,10 +301,10 @@ impl<'s, 'l, T: Tariff> Search<'s, 'l, T> {
         begin: usize,
         front: &mut Front<Final>,
     ) -> Result<(), AllocError>
-        requires ending { AreEnding (T.terms self.now.tariff) self.now.feed self.now.query labels.now }
+        requires ending { AreEnding (task_of T.Fare.at_most T.terms self.now) labels.now }
         requires numbers { length labels.now < 2 ^ 32 }
-        requires before { AddsEnds (T.terms self.now.tariff) self.now.feed self.now.query labels.now (EndsBelow (T.terms self.now.tariff) self.now.feed self.now.query labels.now begin) [] front.old }
-        ensures { OnOk result (AddsEnds (T.terms self.now.tariff) self.now.feed self.now.query labels.now (EndsBelow (T.terms self.now.tariff) self.now.feed self.now.query labels.now (length labels.now)) [] front.new) }
+        requires before { AddsEnds (task_of T.Fare.at_most T.terms self.now) labels.now (EndsBelow (task_of T.Fare.at_most T.terms self.now) labels.now begin) [] front.old }
+        ensures { OnOk result (AddsEnds (task_of T.Fare.at_most T.terms self.now) labels.now (EndsBelow (task_of T.Fare.at_most T.terms self.now) labels.now (length labels.now)) [] front.new) }
     {
         for number in begin..labels.len() {
             let source = Source {
@@ -327,11 +328,11 @@ impl<'s, 'l, T: Tariff> Search<'s, 'l, T> {
         labels: &mut Vec<Label<T::Fare, T::Move>>,
         front: &mut Front<Final>,
     ) -> Result<(), AllocError>
-        requires ending { AreEnding (T.terms self.now.tariff) self.now.feed self.now.query (labels.old.items ++ gathered rides (in_bags bags.now)) }
-        requires ended { AddsEnds (T.terms self.now.tariff) self.now.feed self.now.query labels.old.items (EndsBelow (T.terms self.now.tariff) self.now.feed self.now.query labels.old.items (length labels.old.items)) [] front.old }
+        requires ending { AreEnding (task_of T.Fare.at_most T.terms self.now) (labels.old.items ++ gathered rides (in_bags bags.now)) }
+        requires ended { AddsEnds (task_of T.Fare.at_most T.terms self.now) labels.old.items (EndsBelow (task_of T.Fare.at_most T.terms self.now) labels.old.items (length labels.old.items)) [] front.old }
         ensures value { OnOk result (labels.new.items ≡ labels.old.items ++ gathered rides (in_bags bags.now)) }
         ensures numbers { OnOk result (length labels.new.items < 2 ^ 32) }
-        ensures ended { OnOk result (AddsEnds (T.terms self.now.tariff) self.now.feed self.now.query labels.new.items (EndsBelow (T.terms self.now.tariff) self.now.feed self.now.query labels.new.items (length labels.new.items)) [] front.new) }
+        ensures ended { OnOk result (AddsEnds (task_of T.Fare.at_most T.terms self.now) labels.new.items (EndsBelow (task_of T.Fare.at_most T.terms self.now) labels.new.items (length labels.new.items)) [] front.new) }
         ensures apart { AreApart (covers T.Fare.at_most) (in_bags bags.now) }
     {
         let begin = labels.len();
@@ -349,9 +350,9 @@ impl<'s, 'l, T: Tariff> Search<'s, 'l, T> {
         labels: &mut Vec<Label<T::Fare, T::Move>>,
         front: &mut Front<Final>,
     ) -> Result<(), AllocError>
-        requires start { IsGathered T.Fare.at_most (T.terms self.now.tariff) self.now.feed self.now.query 0 0 labels.old.items (in_bags bags.old) front.old }
-        requires stops { length bags.old ≡ length self.now.feed.stops }
-        ensures { OnOk result (IsSearched T.Fare.at_most (T.terms self.now.tariff) self.now.feed self.now.query labels.new.items front.new) }
+        requires start { IsGathered (task_of T.Fare.at_most T.terms self.now) 0 0 labels.old.items (in_bags bags.old) front.old }
+        requires stops { AreForStops self.now.feed bags.old }
+        ensures { OnOk result (IsSearched (task_of T.Fare.at_most T.terms self.now) labels.new.items front.new) }
     {
         let _feed = self.feed();
         let mut room = Room {
@@ -374,7 +375,7 @@ impl<'s, 'l, T: Tariff> Search<'s, 'l, T> {
     /// # Errors
     /// Want of memory; so counts that there would be 2^32 labels or more.
     pub fn labels(&self) -> Result<(Vec<Label<T::Fare, T::Move>>, Front<Final>), AllocError>
-        ensures { IfOk result (λ all. IsSearched T.Fare.at_most (T.terms self.now.tariff) self.now.feed self.now.query all.0.items all.1) }
+        ensures { IfOk result (λ all. IsSearched (task_of T.Fare.at_most T.terms self.now) all.0.items all.1) }
     {
         let _limit = self.limit();
         let mut bags = StopBags::empty(self.alloc, self.feed().stops.items().len())?;

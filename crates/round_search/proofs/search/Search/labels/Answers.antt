@@ -7,40 +7,33 @@ use Rattle.round_search.specs.Searches.{AreEnding, IsNever, search_of, told}
 use Rattle.round_search.specs.Steps.{ways}
 use Rattle.round_search.proofs.LawfulLaws.{cover_test}
 use Rattle.round_search.proofs.RoundLaws.{ending_of, gathered_rides, last_first}
+use Rattle.round_search.specs.Tasks.{HasLaws, task_of}
 use Rattle.round_search.proofs.search.Search.labels.Goals as goal
 
 pub gather-requires-clause-ending : goal.gather-requires-clause-ending
 gather-requires-clause-ending g c =
-    let at_most = g.T.Fare.LabelOrder.at_most in
-    let t = g.T.Tariff.terms c.args.self.now.tariff in
-    let feed = c.args.self.now.feed in
-    let query = c.args.self.now.query in
-    let laws = g.met.T.Fare.LabelOrder.laws in
-    let lawful = g.met.T.Tariff.lawful c.args.self.now.tariff in
-    let s = search_of at_most t feed query in
-    let test = cover_test at_most t laws lawful feed query in
+    let task = task_of g.T.Fare.LabelOrder.at_most g.T.Tariff.terms c.args.self.now in
+    let laws : HasLaws task = record { order = g.met.T.Fare.LabelOrder.laws; fares = g.met.T.Tariff.lawful c.args.self.now.tariff } in
+    let s = search_of task in
+    let test = cover_test task laws in
     let new = in_bags c.offer_starts.new.bags in
     let spreads =
-    subst (λ old. Spreads s IsNever [] 0 ((ways at_most t feed query).Starts) old new) c.in_ok-bags.ensures.none
+    subst (λ old. Spreads s IsNever [] 0 ((ways task).Starts) old new) c.in_ok-bags.ensures.none
     c.in_ok-offer_starts.ensures.spreads in
-    subst (λ ls. AreEnding t feed query (ls ++ gathered 0 new)) (sym c.new-labels.ensures.items)
-    (ending_of t feed query ([] ++ gathered 0 new) c.limit-limit.ensures.usual
-    (few_more s test IsNever 0 [] _ [] new (stored_none s) spreads query.rides (omega arith))
+    subst (λ ls. AreEnding task (ls ++ gathered 0 new)) (sym c.new-labels.ensures.items)
+    (ending_of task ([] ++ gathered 0 new) c.limit-limit.ensures.usual
+    (few_more s test IsNever 0 [] _ [] new (stored_none s) spreads task.query.rides (omega arith))
     (fit_more s test IsNever 0 [] _ [] new (stored_none s) spreads))
 
 pub spread_all-requires-clause-start : goal.spread_all-requires-clause-start
 spread_all-requires-clause-start g c =
-    let at_most = g.T.Fare.LabelOrder.at_most in
-    let t = g.T.Tariff.terms c.args.self.now.tariff in
-    let feed = c.args.self.now.feed in
-    let query = c.args.self.now.query in
-    let laws = g.met.T.Fare.LabelOrder.laws in
-    let lawful = g.met.T.Tariff.lawful c.args.self.now.tariff in
-    let s = search_of at_most t feed query in
-    let test = cover_test at_most t laws lawful feed query in
+    let task = task_of g.T.Fare.LabelOrder.at_most g.T.Tariff.terms c.args.self.now in
+    let laws : HasLaws task = record { order = g.met.T.Fare.LabelOrder.laws; fares = g.met.T.Tariff.lawful c.args.self.now.tariff } in
+    let s = search_of task in
+    let test = cover_test task laws in
     let new = in_bags c.offer_starts.new.bags in
     let spreads =
-    subst (λ old. Spreads s IsNever [] 0 ((ways at_most t feed query).Starts) old new) c.in_ok-bags.ensures.none
+    subst (λ old. Spreads s IsNever [] 0 ((ways task).Starts) old new) c.in_ok-bags.ensures.none
     c.in_ok-offer_starts.ensures.spreads in
     let all = c.in_ok-gather.ensures in
     let stored = stored_more s test IsNever 0 [] _ [] new (stored_none s) spreads all.apart in
@@ -49,7 +42,7 @@ spread_all-requires-clause-start g c =
       stored = subst (λ ls. AreStored s 1 ls new) (sym is) stored;
       apart = all.apart;
       closed = λ x at few. absurd (omega (arith, few));
-      starts = subst (CoversStarts (ways at_most t feed query) (told t feed query)) (sym is)
+      starts = subst (CoversStarts (ways task) (told task)) (sym is)
           (starts_covered s test 1 _ new stored (λ b start. ⊎_elim (λ held. held) (λ never. absurd never) (spreads.all b start)));
       ended = all.ended;
       numbers = all.numbers;

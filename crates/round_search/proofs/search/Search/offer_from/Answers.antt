@@ -14,6 +14,7 @@ use Rattle.round_search.specs.Scans.{StepsAt}
 use Rattle.round_search.specs.Searches.{search_of}
 use Rattle.round_search.specs.Steps.{stand_of_facts}
 use Rattle.round_search.proofs.ScanLaws.{source_of}
+use Rattle.round_search.specs.Tasks.{task_of}
 use Rattle.round_search.proofs.search.Search.offer_from.Goals as goal
 
 pub keep-requires-clause-lasts : goal.keep-requires-clause-lasts
@@ -24,14 +25,12 @@ keep-requires-clause-lasts g c =
 
 pub offer_rides-requires-clause-source : goal.offer_rides-requires-clause-source
 offer_rides-requires-clause-source g c =
-    let t = g.T.Tariff.terms c.args.self.now.tariff in
-    let feed = c.args.self.now.feed in
-    let query = c.args.self.now.query in
+    let task = task_of g.T.Fare.LabelOrder.at_most g.T.Tariff.terms c.args.self.now in
     let round = c.args.round.now in
     let number = c.args.reached.now.number in
     let marked = c.requires.marked in
     let at = slice_get-get_or round.labels.now number c.index-round-reached.result marked.within in
-    source_of t feed query _ c.requires.round.usual at (c.requires.round.origins number _ at marked.since)
+    source_of task _ c.requires.round.usual at (c.requires.round.origins number _ at marked.since)
 
 pub offer_rides-requires-clause-from : goal.offer_rides-requires-clause-from
 offer_rides-requires-clause-from g c =
@@ -43,22 +42,19 @@ offer_rides-requires-clause-from g c =
 
 pub returns-clause-spreads : goal.returns-clause-spreads
 returns-clause-spreads g c =
-    let at_most = g.T.Fare.LabelOrder.at_most in
-    let t = g.T.Tariff.terms c.args.self.now.tariff in
-    let feed = c.args.self.now.feed in
-    let query = c.args.self.now.query in
+    let task = task_of g.T.Fare.LabelOrder.at_most g.T.Tariff.terms c.args.self.now in
     let round = c.args.round.now in
     let reached = c.args.reached.now in
     let labels = round.labels.now in
     let marked = c.requires.marked in
-    let search = search_of at_most t feed query in
+    let search = search_of task in
     let x = slice_index_or labels reached.number c.index-round-reached.result in
     let at = slice_get-get_or labels reached.number c.index-round-reached.result marked.within in
-    let Part = StepsAt t feed query round.positions.now (facts_of x) reached in
+    let Part = StepsAt task round.positions.now (facts_of x) reached in
     on_ok_weaker c.offer_rides.result
-    (λ spreads. spreads_same search (IsCut t round.finals.now) labels (round.count + 1) _ _ _ _
-    (subst (λ n. Spreads search (IsCut t round.finals.now) labels (n + 1) Part (in_bags c.args.bags.now) (in_bags c.offer_rides.new.bags))
+    (λ spreads. spreads_same search (IsCut task.terms round.finals.now) labels (round.count + 1) _ _ _ _
+    (subst (λ n. Spreads search (IsCut task.terms round.finals.now) labels (n + 1) Part (in_bags c.args.bags.now) (in_bags c.offer_rides.new.bags))
     (c.requires.round.last.last reached.number x at marked.since) spreads)
-    (λ b step. subst (λ (y : Label _ _). StepsAt t feed query round.positions.now (facts_of y) reached b)
+    (λ b step. subst (λ (y : Label _ _). StepsAt task round.positions.now (facts_of y) reached b)
     (same_Some step.0 x (sym step.1 ∙ at)) step.2))
     c.offer_rides.ensures.spreads

@@ -5,39 +5,36 @@ use Rattle.round_search.specs.declared.label.Label.{Label}
 use Rattle.round_search.specs.Bags.{in_bags}
 use Rattle.round_search.specs.Cuts.{IsCut, is_cut}
 use Rattle.round_search.specs.Labels.{facts_of}
-use Rattle.round_search.specs.Searches.{Asked, search_of}
+use Rattle.round_search.specs.Searches.{search_of}
 use Rattle.round_search.proofs.LawfulLaws.{cover_test, ways_lawful}
 use Rattle.round_search.proofs.RideLaws.{after_is, fresh_after, went_on}
+use Rattle.round_search.specs.Tasks.{Asked, HasLaws, task_of}
 use Rattle.round_search.proofs.search.Search.offer_move.Goals as goal
 
 pub is_cut-requires-clause-fare : goal.is_cut-requires-clause-fare
 is_cut-requires-clause-fare g c =
-    let t = g.T.Tariff.terms c.args.self.now.tariff in
-    let lawful = g.met.T.Tariff.lawful c.args.self.now.tariff in
+    let task = task_of g.T.Fare.LabelOrder.at_most g.T.Tariff.terms c.args.self.now in
+    let laws : HasLaws task = record { order = g.met.T.Fare.LabelOrder.laws; fares = g.met.T.Tariff.lawful c.args.self.now.tariff } in
     let from = facts_of c.args.source.now.label.now in
     let caught = c.args.caught.now.facts in
     let taken = c.args.taken.now in
-    subst (t.IsFare (from.rides + 1)) (sym (c.after.ensures ∙ ap (λ (a : Asked _). (g.T.Tariff.terms a.tariff).after from caught taken) c.self.view_is))
-    (lawful.stays from caught taken c.requires.source.fit.fare c.requires.pays)
+    subst (task.terms.IsFare (from.rides + 1)) (sym (c.after.ensures ∙ ap (λ (a : Asked _). (g.T.Tariff.terms a.tariff).after from caught taken) c.self.view_is))
+    (laws.fares.stays from caught taken c.requires.source.fit.fare c.requires.pays)
 
 pub returns-then-is_cut-clause-spreads : goal.returns-then-is_cut-clause-spreads
 returns-then-is_cut-clause-spreads g c =
-    let at_most = g.T.Fare.LabelOrder.at_most in
-    let t = g.T.Tariff.terms c.args.self.now.tariff in
-    let feed = c.args.self.now.feed in
-    let query = c.args.self.now.query in
-    let laws = g.met.T.Fare.LabelOrder.laws in
-    let lawful = g.met.T.Tariff.lawful c.args.self.now.tariff in
+    let task = task_of g.T.Fare.LabelOrder.at_most g.T.Tariff.terms c.args.self.now in
+    let laws : HasLaws task = record { order = g.met.T.Fare.LabelOrder.laws; fares = g.met.T.Tariff.lawful c.args.self.now.tariff } in
     let source = c.args.source.now in
     let caught = c.args.caught.now in
     let taken = c.args.taken.now in
     let finals = c.args.finals.now in
     let next =
-    after_is at_most t laws lawful feed query source c.requires.source caught c.requires.right taken c.after.result
+    after_is task laws source c.requires.source caught c.requires.right taken c.after.result
     (c.after.ensures ∙ ap (λ (a : Asked _). (g.T.Tariff.terms a.tariff).after (facts_of source.label.now) caught.facts taken) c.self.view_is) in
-    let cut = subst (λ (x : Label _ _). is_cut t finals (facts_of x) ≡ true) next (sym c.is_cut.ensures ∙ c.if-is_cut.true) in
-    spreads_none (search_of at_most t feed query) (IsCut t finals) source.labels.now _ _ (in_bags c.args.bags.now)
-    (λ b same. subst (IsCut t finals) (sym same) cut)
+    let cut = subst (λ (x : Label _ _). is_cut task.terms finals (facts_of x) ≡ true) next (sym c.is_cut.ensures ∙ c.if-is_cut.true) in
+    spreads_none (search_of task) (IsCut task.terms finals) source.labels.now _ _ (in_bags c.args.bags.now)
+    (λ b same. subst (IsCut task.terms finals) (sym same) cut)
 
 pub offer-requires : goal.offer-requires
 offer-requires g c =
@@ -46,18 +43,14 @@ offer-requires g c =
 
 pub returns-clause-spreads : goal.returns-clause-spreads
 returns-clause-spreads g c =
-    let at_most = g.T.Fare.LabelOrder.at_most in
-    let t = g.T.Tariff.terms c.args.self.now.tariff in
-    let feed = c.args.self.now.feed in
-    let query = c.args.self.now.query in
-    let laws = g.met.T.Fare.LabelOrder.laws in
-    let lawful = g.met.T.Tariff.lawful c.args.self.now.tariff in
+    let task = task_of g.T.Fare.LabelOrder.at_most g.T.Tariff.terms c.args.self.now in
+    let laws : HasLaws task = record { order = g.met.T.Fare.LabelOrder.laws; fares = g.met.T.Tariff.lawful c.args.self.now.tariff } in
     let source = c.args.source.now in
     let caught = c.args.caught.now in
     let taken = c.args.taken.now in
-    spreads_taken (search_of at_most t feed query) (ways_lawful at_most t laws lawful feed query) (cover_test at_most t laws lawful feed query)
-    (IsCut t c.args.finals.now) _ _ c.offer.result (in_bags c.args.bags.now) (in_bags c.offer.new.self) _
-    (went_on at_most t laws lawful feed query source c.requires.source caught c.requires.right taken) c.offer.ensures.takes
-    (after_is at_most t laws lawful feed query source c.requires.source caught c.requires.right taken c.after.result
+    spreads_taken (search_of task) (ways_lawful task laws) (cover_test task laws)
+    (IsCut task.terms c.args.finals.now) _ _ c.offer.result (in_bags c.args.bags.now) (in_bags c.offer.new.self) _
+    (went_on task laws source c.requires.source caught c.requires.right taken) c.offer.ensures.takes
+    (after_is task laws source c.requires.source caught c.requires.right taken c.after.result
     (c.after.ensures ∙ ap (λ (a : Asked _). (g.T.Tariff.terms a.tariff).after (facts_of source.label.now) caught.facts taken) c.self.view_is))
-    (fresh_after at_most t laws lawful feed query source c.requires.source caught c.requires.right taken c.feed-feed.ensures.sound c.requires.pays)
+    (fresh_after task laws source c.requires.source caught c.requires.right taken c.feed-feed.ensures.sound c.requires.pays)

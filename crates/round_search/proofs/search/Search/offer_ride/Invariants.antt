@@ -2,11 +2,12 @@ use Rattle.std.proofs.Common.{◌≡◌, length}
 use Rattle.round_search.specs.Bags.{in_bags}
 use Rattle.round_search.specs.Labels.{facts_of}
 use Rattle.round_search.specs.Searches.{LeadsByFirst, SpreadsFrom}
+use Rattle.round_search.specs.Tasks.{task_of}
 use Rattle.round_search.proofs.search.Search.offer_ride.Given as goal
 
 abbrev pub invariant-loop-k : goal.invariant-loop-k
 invariant-loop-k g l = record {
-  spreads : SpreadsFrom g.T.Fare.LabelOrder.at_most (g.T.Tariff.terms l.self.tariff) l.self.feed l.self.query l.finals l.source
+  spreads : SpreadsFrom (task_of g.T.Fare.LabelOrder.at_most g.T.Tariff.terms l.self) l.finals l.source
       (LeadsByFirst (g.T.Tariff.terms l.self.tariff) (facts_of l.source.label.now) l.caught l.moves.items l.k) (in_bags l.fn.bags) (in_bags l.bags);
   stops : length l.bags ≡ length l.fn.bags;
 }

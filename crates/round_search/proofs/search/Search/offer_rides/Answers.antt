@@ -10,6 +10,7 @@ use Rattle.round_search.specs.Searches.{search_of}
 use Rattle.round_search.proofs.RideLaws.{rides_more}
 use Rattle.round_search.proofs.ScanLaws.{by_passed, right_from, steps_from}
 use Rattle.round_search.proofs.search.Search.offer_rides.Goals as goal
+use Rattle.round_search.specs.Tasks.{HasLaws, task_of}
 use Rattle.round_search.proofs.search.Search.offer_rides.Goals.{then-departs_since+in_ok-offer_ride, else-departs_since}
 
 abbrev none : CaughtRide
@@ -21,29 +22,22 @@ none =
 
 pub loop-k-init : goal.loop-k-init
 loop-k-init g c =
-    let at_most = g.T.Fare.LabelOrder.at_most in
-    let t = g.T.Tariff.terms c.args.self.now.tariff in
-    let feed = c.args.self.now.feed in
-    let query = c.args.self.now.query in
+    let task = task_of g.T.Fare.LabelOrder.at_most g.T.Tariff.terms c.args.self.now in
     record {
-      spreads = spreads_none (search_of at_most t feed query) (IsCut t c.args.round.now.finals.now) c.args.source.now.labels.now _ _ (in_bags c.args.bags.now)
+      spreads = spreads_none (search_of task) (IsCut task.terms c.args.round.now.finals.now) c.args.source.now.labels.now _ _ (in_bags c.args.bags.now)
           (λ b steps. let below = steps.1 in absurd (omega (arith, below)));
       stops = refl;
     }
 
 pub offer_ride-requires-clause-right : goal.offer_ride-requires-clause-right
 offer_ride-requires-clause-right g c =
-    let at_most = g.T.Fare.LabelOrder.at_most in
-    let t = g.T.Tariff.terms c.args.self.now.tariff in
-    let feed = c.args.self.now.feed in
-    let query = c.args.self.now.query in
-    let laws = g.met.T.Fare.LabelOrder.laws in
-    let lawful = g.met.T.Tariff.lawful c.args.self.now.tariff in
+    let task = task_of g.T.Fare.LabelOrder.at_most g.T.Tariff.terms c.args.self.now in
+    let laws : HasLaws task = record { order = g.met.T.Fare.LabelOrder.laws; fares = g.met.T.Tariff.lawful c.args.self.now.tariff } in
     let round = c.args.round.now in
     let source = c.args.source.now in
     let reached = c.args.reached.now in
     let rides = c.args.rides.now in
-    right_from at_most t laws lawful feed query round c.requires.round source c.requires.source reached rides c.requires.from c.requires.holds
+    right_from task laws round c.requires.round source c.requires.source reached rides c.requires.from c.requires.holds
     (slice_index_or rides c.loop-k.k none) (Contains-get_or rides c.loop-k.k none c.loop-k-test.true)
     (sym c.departs_since.ensures ∙ c.if-departs_since.true)
 
@@ -52,30 +46,26 @@ offer_ride-requires-clause-stops g c = c.loop-k.invariant.stops ∙ c.requires.s
 
 pub loop-k-preserved : goal.loop-k-preserved
 loop-k-preserved g c =
-    let at_most = g.T.Fare.LabelOrder.at_most in
-    let t = g.T.Tariff.terms c.args.self.now.tariff in
-    let feed = c.args.self.now.feed in
-    let query = c.args.self.now.query in
-    let laws = g.met.T.Fare.LabelOrder.laws in
-    let lawful = g.met.T.Tariff.lawful c.args.self.now.tariff in
+    let task = task_of g.T.Fare.LabelOrder.at_most g.T.Tariff.terms c.args.self.now in
+    let laws : HasLaws task = record { order = g.met.T.Fare.LabelOrder.laws; fares = g.met.T.Tariff.lawful c.args.self.now.tariff } in
     let round = c.args.round.now in
     let source = c.args.source.now in
     let reached = c.args.reached.now in
     let rides = c.args.rides.now in
     let k = c.loop-k.k in
-    let search = search_of at_most t feed query in
+    let search = search_of task in
     let was = c.loop-k.invariant in
     let caught = slice_index_or rides k none in
     let at = slice_get-get_or rides k none c.loop-k-test.true in
     elim c.if-departs_since.branch [
       | then-departs_since+in_ok-offer_ride w ↦ record {
-        spreads = rw w.bags-is (spreads_more search (IsCut t c.args.round.now.finals.now) source.labels.now _ _ _ _ _ _ _ was.spreads w.in_ok-offer_ride.ensures.spreads
-            (λ b. rides_more at_most t laws lawful feed query source c.requires.source rides k caught b at));
+        spreads = rw w.bags-is (spreads_more search (IsCut task.terms c.args.round.now.finals.now) source.labels.now _ _ _ _ _ _ _ was.spreads w.in_ok-offer_ride.ensures.spreads
+            (λ b. rides_more task laws source c.requires.source rides k caught b at));
         stops = rw w.bags-is (w.in_ok-offer_ride.ensures.stops ∙ was.stops);
       }
       | else-departs_since w ↦ record {
-        spreads = rw w.bags-is (spreads_same search (IsCut t c.args.round.now.finals.now) source.labels.now _ _ _ _ _ was.spreads
-            (λ b. by_passed at_most t laws lawful feed query round c.requires.round source c.requires.source reached rides c.requires.from
+        spreads = rw w.bags-is (spreads_same search (IsCut task.terms c.args.round.now.finals.now) source.labels.now _ _ _ _ _ was.spreads
+            (λ b. by_passed task laws round c.requires.round source c.requires.source reached rides c.requires.from
             c.requires.holds k caught b at (sym c.departs_since.ensures ∙ w.if-departs_since.false)));
         stops = rw w.bags-is was.stops;
       }
@@ -83,18 +73,14 @@ loop-k-preserved g c =
 
 pub returns-clause-spreads : goal.returns-clause-spreads
 returns-clause-spreads g c =
-    let at_most = g.T.Fare.LabelOrder.at_most in
-    let t = g.T.Tariff.terms c.args.self.now.tariff in
-    let feed = c.args.self.now.feed in
-    let query = c.args.self.now.query in
-    let laws = g.met.T.Fare.LabelOrder.laws in
-    let lawful = g.met.T.Tariff.lawful c.args.self.now.tariff in
+    let task = task_of g.T.Fare.LabelOrder.at_most g.T.Tariff.terms c.args.self.now in
+    let laws : HasLaws task = record { order = g.met.T.Fare.LabelOrder.laws; fares = g.met.T.Tariff.lawful c.args.self.now.tariff } in
     let round = c.args.round.now in
     let source = c.args.source.now in
     let reached = c.args.reached.now in
     let rides = c.args.rides.now in
-    spreads_same (search_of at_most t feed query) (IsCut t c.args.round.now.finals.now) source.labels.now _ _ _ _ _ c.loop-k.invariant.spreads
-    (λ b. steps_from at_most t laws lawful feed query round c.requires.round source c.requires.source reached rides c.requires.from
+    spreads_same (search_of task) (IsCut task.terms c.args.round.now.finals.now) source.labels.now _ _ _ _ _ c.loop-k.invariant.spreads
+    (λ b. steps_from task laws round c.requires.round source c.requires.source reached rides c.requires.from
     c.requires.holds c.loop-k.k b (omega (arith, c.loop-k-test.false)))
 
 pub returns-clause-stops : goal.returns-clause-stops

@@ -2,12 +2,13 @@ use Rattle.std.proofs.Common.{◌≡◌, length}
 use Rattle.round_search.specs.Bags.{in_bags}
 use Rattle.round_search.specs.Labels.{facts_of}
 use Rattle.round_search.specs.Searches.{SpreadsFrom, StepsByFirst}
+use Rattle.round_search.specs.Tasks.{task_of}
 use Rattle.round_search.proofs.search.Search.offer_rides.Given as goal
 
 abbrev pub invariant-loop-k : goal.invariant-loop-k
 invariant-loop-k g l = record {
-  spreads : SpreadsFrom g.T.Fare.LabelOrder.at_most (g.T.Tariff.terms l.self.tariff) l.self.feed l.self.query l.round.finals.now l.source
-      (StepsByFirst (g.T.Tariff.terms l.self.tariff) l.self.feed l.self.query (facts_of l.source.label.now) l.rides l.k)
+  spreads : SpreadsFrom (task_of g.T.Fare.LabelOrder.at_most g.T.Tariff.terms l.self) l.round.finals.now l.source
+      (StepsByFirst (task_of g.T.Fare.LabelOrder.at_most g.T.Tariff.terms l.self) (facts_of l.source.label.now) l.rides l.k)
       (in_bags l.fn.bags) (in_bags l.bags);
   stops : length l.bags ≡ length l.fn.bags;
 }

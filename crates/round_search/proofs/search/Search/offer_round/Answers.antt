@@ -11,19 +11,17 @@ use Rattle.round_search.specs.Bags.{in_bags}
 use Rattle.round_search.specs.Searches.{search_of}
 use Rattle.round_search.proofs.ScanLaws.{position_at, steps_all, steps_more}
 use Rattle.round_search.proofs.SourceLaws.{within_all}
+use Rattle.round_search.specs.Tasks.{HasLaws, task_of}
 use Rattle.round_search.proofs.search.Search.offer_round.Goals as goal
 
 pub loop-k-init : goal.loop-k-init
 loop-k-init g c =
-    let at_most = g.T.Fare.LabelOrder.at_most in
-    let t = g.T.Tariff.terms c.args.self.now.tariff in
-    let feed = c.args.self.now.feed in
-    let query = c.args.self.now.query in
+    let task = task_of g.T.Fare.LabelOrder.at_most g.T.Tariff.terms c.args.self.now in
     let round = c.args.round.now in
     record {
       same = refl;
-      kept = subst (λ (kept : Kept). AreKept round.positions.now (cutoff_by [] (deadline query)) kept) (sym c.clear.ensures) tt;
-      spreads = spreads_none (search_of at_most t feed query) (IsCut t round.finals.now) round.labels.now _ _ (in_bags c.args.bags.now)
+      kept = subst (λ (kept : Kept). AreKept round.positions.now (cutoff_by [] (deadline task.query)) kept) (sym c.clear.ensures) tt;
+      spreads = spreads_none (search_of task) (IsCut task.terms round.finals.now) round.labels.now _ _ (in_bags c.args.bags.now)
           (λ b steps. let below = steps.1 in absurd (omega (arith, below)));
       stops = refl;
     }
@@ -48,12 +46,8 @@ offer_from-requires-clause-stops g c = c.loop-k.invariant.stops ∙ c.requires.s
 
 pub loop-k-preserved : goal.loop-k-preserved
 loop-k-preserved g c =
-    let at_most = g.T.Fare.LabelOrder.at_most in
-    let t = g.T.Tariff.terms c.args.self.now.tariff in
-    let feed = c.args.self.now.feed in
-    let query = c.args.self.now.query in
-    let laws = g.met.T.Fare.LabelOrder.laws in
-    let lawful = g.met.T.Tariff.lawful c.args.self.now.tariff in
+    let task = task_of g.T.Fare.LabelOrder.at_most g.T.Tariff.terms c.args.self.now in
+    let laws : HasLaws task = record { order = g.met.T.Fare.LabelOrder.laws; fares = g.met.T.Tariff.lawful c.args.self.now.tariff } in
     let round = c.args.round.now in
     let list = c.mark.new.reached in
     let x = c.index.result.now in
@@ -62,26 +56,22 @@ loop-k-preserved g c =
     record {
       same = was.same;
       kept = c.in_ok-offer_from.ensures.kept;
-      spreads = spreads_more (search_of at_most t feed query) (IsCut t round.finals.now) round.labels.now _ _ _ _ _ _ _ was.spreads c.in_ok-offer_from.ensures.spreads
-          (λ b. steps_more at_most t laws lawful feed query round c.requires.round list.items c.loop-k.k x b at);
+      spreads = spreads_more (search_of task) (IsCut task.terms round.finals.now) round.labels.now _ _ _ _ _ _ _ was.spreads c.in_ok-offer_from.ensures.spreads
+          (λ b. steps_more task laws round c.requires.round list.items c.loop-k.k x b at);
       stops = c.in_ok-offer_from.ensures.stops ∙ was.stops;
     }
 
 pub returns-clause-spreads : goal.returns-clause-spreads
 returns-clause-spreads g c =
-    let at_most = g.T.Fare.LabelOrder.at_most in
-    let t = g.T.Tariff.terms c.args.self.now.tariff in
-    let feed = c.args.self.now.feed in
-    let query = c.args.self.now.query in
-    let laws = g.met.T.Fare.LabelOrder.laws in
-    let lawful = g.met.T.Tariff.lawful c.args.self.now.tariff in
+    let task = task_of g.T.Fare.LabelOrder.at_most g.T.Tariff.terms c.args.self.now in
+    let laws : HasLaws task = record { order = g.met.T.Fare.LabelOrder.laws; fares = g.met.T.Tariff.lawful c.args.self.now.tariff } in
     let round = c.args.round.now in
     let labels = round.labels.now in
     let list = c.mark.new.reached in
-    spreads_but (search_of at_most t feed query) (IsCut t round.finals.now) labels _ _ _ _ _ c.loop-k.invariant.spreads
-    (λ b from. ⊎_elim (λ among. inl (steps_all at_most t laws lawful feed query round c.requires.round list.items c.loop-k.k b
+    spreads_but (search_of task) (IsCut task.terms round.finals.now) labels _ _ _ _ _ c.loop-k.invariant.spreads
+    (λ b from. ⊎_elim (λ among. inl (steps_all task laws round c.requires.round list.items c.loop-k.k b
     (omega (arith, c.loop-k-test.false, c.len-k-end.ensures, list.ok.0)) among)) inr
-    (c.in_ok-mark.ensures.all b (within_all at_most t feed query labels round.begin round.count (length labels) b c.requires.round.last (omega arith) from)))
+    (c.in_ok-mark.ensures.all b (within_all task labels round.begin round.count (length labels) b c.requires.round.last (omega arith) from)))
 
 pub returns-clause-stops : goal.returns-clause-stops
 returns-clause-stops g c = c.loop-k.invariant.stops

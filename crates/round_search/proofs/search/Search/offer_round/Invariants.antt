@@ -4,14 +4,15 @@ use Rattle.plan_rides.specs.InTime.{deadline}
 use Rattle.plan_rides.specs.Reached.{AreKept}
 use Rattle.round_search.specs.Bags.{in_bags}
 use Rattle.round_search.specs.Scans.{SpreadsIn, StepsAtFirst}
+use Rattle.round_search.specs.Tasks.{task_of}
 use Rattle.round_search.proofs.search.Search.offer_round.Given as goal
 
 abbrev pub invariant-loop-k : goal.invariant-loop-k
 invariant-loop-k g l = record {
   same : l.room.reached ≡ l.initial.room.reached;
   kept : AreKept l.round.positions.now (cutoff_by [] (deadline l.self.query)) l.room.rides;
-  spreads : SpreadsIn g.T.Fare.LabelOrder.at_most (g.T.Tariff.terms l.self.tariff) l.self.feed l.self.query l.round
-      (StepsAtFirst (g.T.Tariff.terms l.self.tariff) l.self.feed l.self.query l.round l.initial.room.reached.items l.k)
+  spreads : SpreadsIn (task_of g.T.Fare.LabelOrder.at_most g.T.Tariff.terms l.self) l.round
+      (StepsAtFirst (task_of g.T.Fare.LabelOrder.at_most g.T.Tariff.terms l.self) l.round l.initial.room.reached.items l.k)
       (in_bags l.fn.bags) (in_bags l.bags);
   stops : length l.bags ≡ length l.fn.bags;
 }

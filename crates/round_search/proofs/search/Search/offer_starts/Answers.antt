@@ -4,16 +4,14 @@ use Rattle.search_laws.proofs.SpreadLaws.{spreads_more, spreads_none, spreads_sa
 use Rattle.round_search.specs.Bags.{in_bags}
 use Rattle.round_search.specs.Searches.{IsNever, search_of}
 use Rattle.round_search.proofs.RideLaws.{starts_among, starts_one}
+use Rattle.round_search.specs.Tasks.{HasLaws, task_of}
 use Rattle.round_search.proofs.search.Search.offer_starts.Goals as goal
 
 pub loop-k-init : goal.loop-k-init
 loop-k-init g c =
-    let at_most = g.T.Fare.LabelOrder.at_most in
-    let t = g.T.Tariff.terms c.args.self.now.tariff in
-    let feed = c.args.self.now.feed in
-    let query = c.args.self.now.query in
+    let task = task_of g.T.Fare.LabelOrder.at_most g.T.Tariff.terms c.args.self.now in
     record {
-      spreads = spreads_none (search_of at_most t feed query) IsNever [] 0 _ (in_bags c.args.bags.now)
+      spreads = spreads_none (search_of task) IsNever [] 0 _ (in_bags c.args.bags.now)
           (λ b among. let below = among.1 in absurd (omega (arith, below)));
       stops = refl;
     }
@@ -23,28 +21,20 @@ offer_start-requires-clause-stops g c = c.loop-k.invariant.stops ∙ c.requires
 
 pub loop-k-preserved : goal.loop-k-preserved
 loop-k-preserved g c =
-    let at_most = g.T.Fare.LabelOrder.at_most in
-    let t = g.T.Tariff.terms c.args.self.now.tariff in
-    let feed = c.args.self.now.feed in
-    let query = c.args.self.now.query in
-    let laws = g.met.T.Fare.LabelOrder.laws in
-    let lawful = g.met.T.Tariff.lawful c.args.self.now.tariff in
+    let task = task_of g.T.Fare.LabelOrder.at_most g.T.Tariff.terms c.args.self.now in
+    let laws : HasLaws task = record { order = g.met.T.Fare.LabelOrder.laws; fares = g.met.T.Tariff.lawful c.args.self.now.tariff } in
     record {
-      spreads = spreads_more (search_of at_most t feed query) IsNever [] 0 _ _ _ _ _ _ c.loop-k.invariant.spreads c.in_ok-offer_start.ensures.spreads
-          (λ b. starts_one at_most t laws lawful feed query c.firsts-firsts.result.now c.loop-k.k _ b (slice_get-get_or _ c.loop-k.k _ c.loop-k-test.true));
+      spreads = spreads_more (search_of task) IsNever [] 0 _ _ _ _ _ _ c.loop-k.invariant.spreads c.in_ok-offer_start.ensures.spreads
+          (λ b. starts_one task laws c.firsts-firsts.result.now c.loop-k.k _ b (slice_get-get_or _ c.loop-k.k _ c.loop-k-test.true));
       stops = c.offer_start.ensures.stops ∙ c.loop-k.invariant.stops;
     }
 
 pub returns-clause-spreads : goal.returns-clause-spreads
 returns-clause-spreads g c =
-    let at_most = g.T.Fare.LabelOrder.at_most in
-    let t = g.T.Tariff.terms c.args.self.now.tariff in
-    let feed = c.args.self.now.feed in
-    let query = c.args.self.now.query in
-    let laws = g.met.T.Fare.LabelOrder.laws in
-    let lawful = g.met.T.Tariff.lawful c.args.self.now.tariff in
-    spreads_same (search_of at_most t feed query) IsNever [] 0 _ _ _ _ c.loop-k.invariant.spreads
-    (λ b. starts_among at_most t laws lawful feed query c.firsts-firsts.result.now c.loop-k.k b c.firsts-firsts.ensures c.loop-k-test.false)
+    let task = task_of g.T.Fare.LabelOrder.at_most g.T.Tariff.terms c.args.self.now in
+    let laws : HasLaws task = record { order = g.met.T.Fare.LabelOrder.laws; fares = g.met.T.Tariff.lawful c.args.self.now.tariff } in
+    spreads_same (search_of task) IsNever [] 0 _ _ _ _ c.loop-k.invariant.spreads
+    (λ b. starts_among task laws c.firsts-firsts.result.now c.loop-k.k b c.firsts-firsts.ensures c.loop-k-test.false)
 
 pub returns-clause-stops : goal.returns-clause-stops
 returns-clause-stops g c = c.loop-k.invariant.stops

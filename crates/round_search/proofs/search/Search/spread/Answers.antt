@@ -1,16 +1,14 @@
 use Rattle.std.proofs.Common.{ap, subst, ◌∙◌}
 use Rattle.feed_rows.specs.SoundFeed.{IsSoundFeed}
 use Rattle.round_search.specs.Bags.{in_bags}
-use Rattle.round_search.specs.Searches.{Asked}
+use Rattle.round_search.specs.Tasks.{Asked}
 use Rattle.round_search.proofs.SourceLaws.{origin_is}
+use Rattle.round_search.specs.Tasks.{task_of}
 use Rattle.round_search.proofs.search.Search.spread.Goals as goal
 
 pub offer_round-requires-clause-round : goal.offer_round-requires-clause-round
 offer_round-requires-clause-round g c =
-    let at_most = g.T.Fare.LabelOrder.at_most in
-    let t = g.T.Tariff.terms c.args.self.now.tariff in
-    let feed = c.args.self.now.feed in
-    let query = c.args.self.now.query in
+    let task = task_of g.T.Fare.LabelOrder.at_most g.T.Tariff.terms c.args.self.now in
     let labels = c.args.labels.now in
     let last = c.requires.last in
     record {
@@ -20,6 +18,6 @@ offer_round-requires-clause-round g c =
       usual = c.limit-limit.ensures.usual;
       numbers = c.requires.numbers;
       last = last;
-      origins = λ number x at since. origin_is at_most t feed query number x c.args.count labels (in_bags c.args.bags.now) c.requires.few
+      origins = λ number x at since. origin_is task number x c.args.count labels (in_bags c.args.bags.now) c.requires.few
           c.requires.stored at (last.last number x at since);
     }

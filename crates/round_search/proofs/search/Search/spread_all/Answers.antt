@@ -11,6 +11,7 @@ use Rattle.round_search.proofs.CutLaws.{cut_still}
 use Rattle.round_search.proofs.LawfulLaws.{cover_test}
 use Rattle.round_search.proofs.RoundLaws.{ending_of, gathered_rides, searched_of}
 use Rattle.round_search.proofs.SourceLaws.{last_more}
+use Rattle.round_search.specs.Tasks.{HasLaws, task_of}
 use Rattle.round_search.proofs.search.Search.spread_all.Goals as goal
 
 pub loop-count-init : goal.loop-count-init
@@ -18,11 +19,8 @@ loop-count-init g c = record { are = c.requires.start; stops = c.requires.stops 
 
 pub spread-requires-clause-stored : goal.spread-requires-clause-stored
 spread-requires-clause-stored g c =
-    let at_most = g.T.Fare.LabelOrder.at_most in
-    let t = g.T.Tariff.terms c.args.self.now.tariff in
-    let feed = c.args.self.now.feed in
-    let query = c.args.self.now.query in
-    subst (λ ls. AreStored (search_of at_most t feed query) (c.loop-count.count + 1) ls (in_bags c.loop-count.bags)) (sym c.deref.ensures.value)
+    let task = task_of g.T.Fare.LabelOrder.at_most g.T.Tariff.terms c.args.self.now in
+    subst (λ ls. AreStored (search_of task) (c.loop-count.count + 1) ls (in_bags c.loop-count.bags)) (sym c.deref.ensures.value)
     c.loop-count.invariant.are.stored
 
 pub spread-requires-clause-last : goal.spread-requires-clause-last
@@ -38,47 +36,39 @@ spread-requires-clause-stops g c = c.loop-count.invariant.stops
 
 pub gather-requires-clause-ending : goal.gather-requires-clause-ending
 gather-requires-clause-ending g c =
-    let at_most = g.T.Fare.LabelOrder.at_most in
-    let t = g.T.Tariff.terms c.args.self.now.tariff in
-    let feed = c.args.self.now.feed in
-    let query = c.args.self.now.query in
-    let laws = g.met.T.Fare.LabelOrder.laws in
-    let lawful = g.met.T.Tariff.lawful c.args.self.now.tariff in
-    let s = search_of at_most t feed query in
-    let test = cover_test at_most t laws lawful feed query in
+    let task = task_of g.T.Fare.LabelOrder.at_most g.T.Tariff.terms c.args.self.now in
+    let laws : HasLaws task = record { order = g.met.T.Fare.LabelOrder.laws; fares = g.met.T.Tariff.lawful c.args.self.now.tariff } in
+    let s = search_of task in
+    let test = cover_test task laws in
     let was = c.loop-count.invariant.are in
     let count = c.loop-count.count in
     let labels = c.loop-count.labels.items in
     let front = c.loop-count.front in
     let new = in_bags c.spread.new.bags in
     let spreads =
-    subst (λ ls. Spreads s (IsCut t front) ls (count + 1) (StepsFrom s ls count) (in_bags c.loop-count.bags) new) c.deref.ensures.value
+    subst (λ ls. Spreads s (IsCut task.terms front) ls (count + 1) (StepsFrom s ls count) (in_bags c.loop-count.bags) new) c.deref.ensures.value
     c.in_ok-spread.ensures.spreads in
-    ending_of t feed query (labels ++ gathered (count + 1) new) c.limit-count-end.ensures.usual
-    (few_more s test (IsCut t front) (count + 1) labels _ (in_bags c.loop-count.bags) new was.stored spreads query.rides
+    ending_of task (labels ++ gathered (count + 1) new) c.limit-count-end.ensures.usual
+    (few_more s test (IsCut task.terms front) (count + 1) labels _ (in_bags c.loop-count.bags) new was.stored spreads task.query.rides
     (omega (arith, c.loop-count-test.true, c.limit-count-end.ensures.is)))
-    (fit_more s test (IsCut t front) (count + 1) labels _ (in_bags c.loop-count.bags) new was.stored spreads)
+    (fit_more s test (IsCut task.terms front) (count + 1) labels _ (in_bags c.loop-count.bags) new was.stored spreads)
 
 pub gather-requires-clause-ended : goal.gather-requires-clause-ended
 gather-requires-clause-ended g c = c.loop-count.invariant.are.ended
 
 pub loop-count-preserved : goal.loop-count-preserved
 loop-count-preserved g c =
-    let at_most = g.T.Fare.LabelOrder.at_most in
-    let t = g.T.Tariff.terms c.args.self.now.tariff in
-    let feed = c.args.self.now.feed in
-    let query = c.args.self.now.query in
-    let laws = g.met.T.Fare.LabelOrder.laws in
-    let lawful = g.met.T.Tariff.lawful c.args.self.now.tariff in
-    let s = search_of at_most t feed query in
-    let test = cover_test at_most t laws lawful feed query in
+    let task = task_of g.T.Fare.LabelOrder.at_most g.T.Tariff.terms c.args.self.now in
+    let laws : HasLaws task = record { order = g.met.T.Fare.LabelOrder.laws; fares = g.met.T.Tariff.lawful c.args.self.now.tariff } in
+    let s = search_of task in
+    let test = cover_test task laws in
     let was = c.loop-count.invariant.are in
     let count = c.loop-count.count in
     let labels = c.loop-count.labels.items in
     let front = c.loop-count.front in
     let new = in_bags c.spread.new.bags in
     let spreads =
-    subst (λ ls. Spreads s (IsCut t front) ls (count + 1) (StepsFrom s ls count) (in_bags c.loop-count.bags) new) c.deref.ensures.value
+    subst (λ ls. Spreads s (IsCut task.terms front) ls (count + 1) (StepsFrom s ls count) (in_bags c.loop-count.bags) new) c.deref.ensures.value
     c.in_ok-spread.ensures.spreads in
     let old = in_bags c.loop-count.bags in
     let all = c.in_ok-gather.ensures in
@@ -86,14 +76,14 @@ loop-count-preserved g c =
     record {
       are = record {
         stored = subst (λ ls. AreStored s (count + 1 + 1) ls new) (sym all.value)
-            (stored_more s test (IsCut t front) (count + 1) labels _ old new was.stored spreads all.apart);
+            (stored_more s test (IsCut task.terms front) (count + 1) labels _ old new was.stored spreads all.apart);
         apart = all.apart;
-        closed = closed_weaker s (IsCut t front) (IsCut t c.gather.new.front) (count + 1) c.gather.new.labels.items
-            (cut_still at_most t laws lawful feed query labels (gathered (count + 1) new) front c.gather.new.front was.ended
-            (subst (λ ls. AddsEnds t feed query ls (EndsBelow t feed query ls (length ls)) [] c.gather.new.front) all.value all.ended))
-            (subst (AreClosedTo s (IsCut t front) (count + 1)) (sym all.value)
-            (closed_more s test (IsCut t front) (count + 1) labels _ old new was.stored spreads count refl was.closed (λ b h. h)));
-        starts = subst (CoversStarts (ways at_most t feed query) (told t feed query)) (sym all.value) (starts_more s labels _ was.starts);
+        closed = closed_weaker s (IsCut task.terms front) (IsCut task.terms c.gather.new.front) (count + 1) c.gather.new.labels.items
+            (cut_still task laws labels (gathered (count + 1) new) front c.gather.new.front was.ended
+            (subst (λ ls. AddsEnds task ls (EndsBelow task ls (length ls)) [] c.gather.new.front) all.value all.ended))
+            (subst (AreClosedTo s (IsCut task.terms front) (count + 1)) (sym all.value)
+            (closed_more s test (IsCut task.terms front) (count + 1) labels _ old new was.stored spreads count refl was.closed (λ b h. h)));
+        starts = subst (CoversStarts (ways task) (told task)) (sym all.value) (starts_more s labels _ was.starts);
         ended = all.ended;
         numbers = all.numbers;
         last = subst (AreLast (count + 1) c.len-end.result) (sym all.value)
@@ -105,12 +95,8 @@ loop-count-preserved g c =
 
 pub returns : goal.returns
 returns g c =
-    let at_most = g.T.Fare.LabelOrder.at_most in
-    let t = g.T.Tariff.terms c.args.self.now.tariff in
-    let feed = c.args.self.now.feed in
-    let query = c.args.self.now.query in
-    let laws = g.met.T.Fare.LabelOrder.laws in
-    let lawful = g.met.T.Tariff.lawful c.args.self.now.tariff in
-    searched_of at_most t laws lawful feed query c.loop-count.begin c.loop-count.labels.items (in_bags c.loop-count.bags) c.loop-count.front
-    (subst (λ n. IsGathered at_most t feed query n c.loop-count.begin c.loop-count.labels.items (in_bags c.loop-count.bags) c.loop-count.front)
+    let task = task_of g.T.Fare.LabelOrder.at_most g.T.Tariff.terms c.args.self.now in
+    let laws : HasLaws task = record { order = g.met.T.Fare.LabelOrder.laws; fares = g.met.T.Tariff.lawful c.args.self.now.tariff } in
+    searched_of task laws c.loop-count.begin c.loop-count.labels.items (in_bags c.loop-count.bags) c.loop-count.front
+    (subst (λ n. IsGathered task n c.loop-count.begin c.loop-count.labels.items (in_bags c.loop-count.bags) c.loop-count.front)
     (omega (arith, c.loop-count-test.false, c.loop-count.auto.count-end, c.limit-count-end.ensures.is)) c.loop-count.invariant.are) c.feed-feed.ensures.sound
