@@ -3,11 +3,11 @@
 
   whole_feed.py FOLDER ROWS [--prefix BYTES] [--names COUNT] [--lines] [COMMAND ..]
 
-All eighteen files have rows. Trips have 25 calls, an eighth of them without a time; platforms are a fiftieth of the stop
-times, half of them in stations of four; and rows of trips and stops are shuffled. --prefix puts so many equal bytes before each
-id, so that ids differ only at their ends. --names gives the feed so many services. Each trip calls at stops of its own, drawn
-at random; with --lines all trips of a route in one direction call at the same stops and follow one another, as in most real
-feeds. Without a command the files are read by Python's csv.reader alone.
+All files but fare_leg_join_rules.txt have rows. Trips have 25 calls, an eighth of them without a time; platforms are a
+fiftieth of the stop times, half of them in stations of four; and rows of trips and stops are shuffled. --prefix puts so
+many equal bytes before each id, so that ids differ only at their ends. --names gives the feed so many services. Each trip
+calls at stops of its own, drawn at random; with --lines all trips of a route in one direction call at the same stops and
+follow one another, as in most real feeds. Without a command the files are read by Python's csv.reader alone.
 """
 import csv
 import os

@@ -30,6 +30,7 @@ pub rows_are : (t : FeedTables) (rows : FeedRows)
     → rows.products ≡ (rows_of_tables t).products
     → rows.leg_rules ≡ (rows_of_tables t).leg_rules
     → rows.transfer_rules ≡ (rows_of_tables t).transfer_rules
+    → rows.join_rules ≡ (rows_of_tables t).join_rules
     → rows.service_names ≡ (rows_of_tables t).service_names
     → rows.network_names ≡ (rows_of_tables t).network_names
     → rows.frame_names ≡ (rows_of_tables t).frame_names
@@ -39,7 +40,7 @@ pub rows_are : (t : FeedTables) (rows : FeedRows)
     → rows.currency ≡ (rows_of_tables t).currency
     → rows.decimals ≡ (rows_of_tables t).decimals
     → rows ≡ rows_of_tables t
-rows_are t rows e1 e2 e3 e4 e5 e6 e7 e8 e9 e10 e11 e12 e13 e14 e15 e16 e17 e18 e19 e20 e21 e22 e23 e24 =
+rows_are t rows e1 e2 e3 e4 e5 e6 e7 e8 e9 e10 e11 e12 e13 e14 e15 e16 e17 e18 e19 e20 e21 e22 e23 e24 e25 =
     λ i. record {
       stops = e1 i;
       routes = e2 i;
@@ -57,12 +58,13 @@ rows_are t rows e1 e2 e3 e4 e5 e6 e7 e8 e9 e10 e11 e12 e13 e14 e15 e16 e17 e18 e
       products = e14 i;
       leg_rules = e15 i;
       transfer_rules = e16 i;
-      service_names = e17 i;
-      network_names = e18 i;
-      frame_names = e19 i;
-      product_names = e20 i;
-      group_names = e21 i;
-      has_priority = e22 i;
-      currency = e23 i;
-      decimals = e24 i;
+      join_rules = e17 i;
+      service_names = e18 i;
+      network_names = e19 i;
+      frame_names = e20 i;
+      product_names = e21 i;
+      group_names = e22 i;
+      has_priority = e23 i;
+      currency = e24 i;
+      decimals = e25 i;
     }

@@ -87,8 +87,11 @@ impl<'t, C: CallTable> TableSource<'t, C> {
         ensures { IfOk result (λ feed. feed ≡ rows_of_tables self.now) }
     {
         let links = self.link_rows()?;
-        let leg_rules = self.rows_of(FileName::FareLegRules)?;
-        let transfer_rules = self.rows_of(FileName::FareTransferRules)?;
+        let rule_files = self.rows_of_three(
+            FileName::FareLegRules,
+            FileName::FareTransferRules,
+            FileName::FareLegJoinRules,
+        )?;
         let trip_files = self.rows_of_three(FileName::Stops, FileName::Routes, FileName::Trips)?;
         let day_files = self.rows_of_three(
             FileName::Calendar,
@@ -110,6 +113,7 @@ impl<'t, C: CallTable> TableSource<'t, C> {
         let (services, exceptions, frequencies) = day_files;
         let (areas, stop_areas, timeframes) = area_files;
         let (riders, media, products) = product_files;
+        let (leg_rules, transfer_rules, join_rules) = rule_files;
         let (service_names, network_names, frame_names, product_names, group_names) = names;
         let leg_rule_table = self.tables.get(FileName::FareLegRules);
         let (currency, decimals) = self.currency();
@@ -130,6 +134,7 @@ impl<'t, C: CallTable> TableSource<'t, C> {
             products,
             leg_rules,
             transfer_rules,
+            join_rules,
             service_names,
             network_names,
             frame_names,

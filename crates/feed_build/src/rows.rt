@@ -6,16 +6,16 @@ ghost use Rattle.feed_faults.specs.Records.{field, row_count};
 ghost use Rattle.feed_faults.specs.FormFaults.{is_passed_over};
 ghost use Rattle.feed_faults.specs.FeedTables.{table_in};
 ghost use Rattle.feed_faults.specs.FieldValues.{nat_of};
-ghost use Rattle.feed_faults.specs.AcceptedFeed.{if_filled, stop_row, network_of_route, route_row, trip_row, service_row, exception_row, frequency_row, link_row, area_row, stop_area_row, timeframe_row, rider_row, medium_row, product_row, leg_rule_row, transfer_rule_row, feed_currency, feed_decimals};
+ghost use Rattle.feed_faults.specs.AcceptedFeed.{if_filled, stop_row, network_of_route, route_row, trip_row, service_row, exception_row, frequency_row, link_row, area_row, stop_area_row, timeframe_row, rider_row, medium_row, product_row, leg_rule_row, transfer_rule_row, join_row, feed_currency, feed_decimals};
 
 use crate::feed::{TableSource, row_number};
 use crate::names::name_number;
 use feed_faults::IdColumn;
 use feed_files::{ColumnName, FileName};
 use feed_rows::{
-    AreaRow, ExceptionRow, FrequencyRow, Id, LegRuleRow, Limit, LinkRow, LinkRows, MediumRow,
-    PLATFORM, ProductRow, RiderRow, RouteRow, ServiceRow, StopAreaRow, StopRow, TimeframeRow,
-    TransferRuleRow, TripRow,
+    AreaRow, ExceptionRow, FrequencyRow, Id, JoinRow, LegRuleRow, Limit, LinkRow, LinkRows,
+    MediumRow, PLATFORM, ProductRow, RiderRow, RouteRow, ServiceRow, StopAreaRow, StopRow,
+    TimeframeRow, TransferRuleRow, TripRow,
 };
 use feed_tables::CallTable;
 use feed_text::{Table, is_filled, is_passed_over, nat_of, natural};
@@ -451,6 +451,35 @@ impl FileRow for TransferRuleRow {
             limit: filled(table.field(row, ColumnName::DurationLimit), limit),
             kind: nat_of(kind) as u8,
             product: filled(product, ProductId(name_number(&names.products, product))),
+        })
+    }
+}
+
+// A row of `fare_leg_join_rules.txt`.
+impl FileRow for JoinRow {
+    ghost file = { file.FareLegJoinRules };
+
+    ghost row_in = { join_row };
+
+    #[tactic(auto, unfolding(feed_faults::specs::AcceptedFeed::join_row))]
+    fn of<C: CallTable>(
+        source: &TableSource<C>,
+        table: &Table,
+        row: u32,
+    ) -> Result<Self, AllocError> {
+        let networks = &source.names.networks;
+        let from_network = table.field(row, ColumnName::FromNetworkId);
+        let to_network = table.field(row, ColumnName::ToNetworkId);
+        let from_stop = table.field(row, ColumnName::FromStopId);
+        let to_stop = table.field(row, ColumnName::ToStopId);
+        Ok(JoinRow {
+            from_network: NetworkId(name_number(networks, from_network)),
+            to_network: NetworkId(name_number(networks, to_network)),
+            from_stop: filled(
+                from_stop,
+                StopId(row_number(source, IdColumn::Stop, from_stop)),
+            ),
+            to_stop: filled(to_stop, StopId(row_number(source, IdColumn::Stop, to_stop))),
         })
     }
 }

@@ -61,7 +61,7 @@ module _ (before now : List FileBytes) where
       rw (own, tables_left names (suc n) stand.1 (λ other le. left other (omega (arith, le)))) refl
 
   pub others_stand : StandFrom 4 other_files
-  others_stand = (refl, (refl, (refl, (refl, (refl, (refl, (refl, (refl, (refl, (refl, (refl, (refl, (refl, (refl, tt))))))))))))))
+  others_stand = (refl, (refl, (refl, (refl, (refl, (refl, (refl, (refl, (refl, (refl, (refl, (refl, (refl, (refl, (refl, tt)))))))))))))))
 
   pub other_faults_left : AreLeft before now 4 → first_in other_files (form_fault (held_in now)) ≡ first_in other_files (form_fault (held_in before))
   other_faults_left left = faults_left other_files 4 others_stand left

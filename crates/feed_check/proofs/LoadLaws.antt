@@ -11,6 +11,7 @@ use Rattle.feed_files.specs.declared.names.FileName.TheVariants as file
 use Rattle.feed_faults.specs.FormFaults.{form_fault}
 use Rattle.folder_io.specs.declared.files.FileBytes.{FileBytes}
 use Rattle.folder_io.specs.declared.files.FileBytes.TheVariants as kept
+use Rattle.folder_io.specs.declared.files.TheConstants.{FILE_COUNT}
 use Rattle.folder_io.specs.declared.reading.ReadError.{ReadError}
 use Rattle.folder_io.specs.declared.reading.ReadError.TheVariants as read
 use Rattle.folder_io.specs.FolderCalls.{FolderState, WhereTold}
@@ -39,7 +40,7 @@ use Rattle.feed_check.proofs.JoinedFiles.{joined, first_joined, first_faults, ot
 pub began : (folder : FolderState) → ReadsTo folder 0 folder
 began folder = record { counts = refl; opens = makes_none folder.opens }
 
-pub opens_all : (folder now : FolderState) → ReadsTo folder 18 now → OpensAll folder now
+pub opens_all : (folder now : FolderState) → ReadsTo folder FILE_COUNT now → OpensAll folder now
 opens_all folder now reads = record { counts = reads.counts; opens = reads.opens }
 
 -- why nothing was loaded
@@ -48,18 +49,18 @@ unread_gives read.ReadFault folder now gave = record { counts = gave.why.0; ende
 unread_gives read.NoMemory folder now gave = record { counts = gave.why; opens = gave.opens }
 
 -- no file is within any limit
-pub none_within : AreWithin (replicate 18 kept.Absent)
+pub none_within : AreWithin (replicate FILE_COUNT kept.Absent)
 none_within name =
-    let is : file_in (replicate 18 kept.Absent) name ≡ kept.Absent = unwrap_or-slice_get (replicate 18 kept.Absent) (place name) kept.Absent ∙ get_or-replicate 18 (place name) kept.Absent kept.Absent (inside name) in
+    let is : file_in (replicate FILE_COUNT kept.Absent) name ≡ kept.Absent = unwrap_or-slice_get (replicate FILE_COUNT kept.Absent) (place name) kept.Absent ∙ get_or-replicate FILE_COUNT (place name) kept.Absent kept.Absent (inside name) in
     rw is tt
 
 -- the first fault of files that a folder holds
-fault_gives : (folder now : FolderState) (files : FileName → HeldFile) → Gives folder files → ReadsTo folder 18 now → (why : TextError) → IsErrorOf (first_fault files) why → GivesUpLoading (refused why) folder now
-fault_gives folder now files gives reads text.NoMemory is = record { counts = reads.counts; opens = (18, reads.opens) }
+fault_gives : (folder now : FolderState) (files : FileName → HeldFile) → Gives folder files → ReadsTo folder FILE_COUNT now → (why : TextError) → IsErrorOf (first_fault files) why → GivesUpLoading (refused why) folder now
+fault_gives folder now files gives reads text.NoMemory is = record { counts = reads.counts; opens = (FILE_COUNT, reads.opens) }
 fault_gives folder now files gives reads (text.Fault fault) is = (opens_all folder now reads, record { files = files; gives = gives; is_first = is })
 
 -- that of the files before stop_times.txt, behind which all others were read
-module _ (folder now : FolderState) (first others : FileName → HeldFile) (reads : ReadsTo folder 18 now)
+module _ (folder now : FolderState) (first others : FileName → HeldFile) (reads : ReadsTo folder FILE_COUNT now)
     (before : (name : FileName) → place name < 3 → WhereTold folder (λ contents. first name ≡ held contents name))
     (behind : (name : FileName) → 3 ≤ place name → WhereTold folder (λ contents. others name ≡ held contents name)) where
   pub first_refused : (why : TextError) → IsErrorOf (first_in first_files (form_fault first)) why → GivesUpLoading (refused why) folder now
@@ -76,11 +77,11 @@ pub record AreLoaded (folder now : FolderState) (first : List TableOf) (ids : Ca
   pub before : AreFirstOf folder first
   pub at : AreCallsIn folder ids calls
   pub behind : (name : FileName) → 4 ≤ place name → WhereTold folder (λ contents. others name ≡ held contents name)
-  pub reads : ReadsTo folder 18 now
+  pub reads : ReadsTo folder FILE_COUNT now
 
 pub loaded_so : (folder mid behind now : FolderState) (first : List TableOf) (ids : CallIds) (calls : Result StopTimes TextError) (before after : List FileBytes) → AreFirstOf folder first → ReadsTo folder 3 mid → mid.source ≡ folder.source
     → AreCallsIn mid ids calls → ((start : FolderState) → ReadsTo start 3 mid → ReadsTo start 4 behind) → behind.source ≡ mid.source
-    → AreReadBetween behind 4 18 before after → ((start : FolderState) → ReadsTo start 4 behind → ReadsTo start 18 now) → AreLoaded folder now first ids calls (held_in after)
+    → AreReadBetween behind 4 FILE_COUNT before after → ((start : FolderState) → ReadsTo start 4 behind → ReadsTo start FILE_COUNT now) → AreLoaded folder now first ids calls (held_in after)
 loaded_so folder mid behind now first ids calls before after are reads_first holds_first are_calls reads_calls holds_calls are_others reads_others = record {
   before = are;
   at = record { kept = are_calls.kept; given = rw holds_first at are_calls.given; are = are_calls.are };

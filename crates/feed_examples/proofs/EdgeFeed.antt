@@ -11,7 +11,7 @@ use Rattle.feed_rows.specs.FeedRows.{FeedRows}
 use Rattle.feed_rows.specs.SoundFeed.{IsSoundFeed}
 use Rattle.plain_laws.specs.Plain.{list_below}
 use Rattle.feed_laws.proofs.SoundTests.{sound_from_test}
-use Rattle.feed_examples.specs.BaseFeed.{base, platform, network_rule, transfer_rule}
+use Rattle.feed_examples.specs.BaseFeed.{base, platform, network_rule, transfer_rule, join_rule}
 use Rattle.feed_examples.proofs.CornerRides.{timed, frequency}
 
 -- a text of so many bytes
@@ -54,7 +54,7 @@ offer product rider medium amount =
 -- one trip that is a single row, and none of the third. Days from the first to the last of the calendar. Frequency rows of one
 -- trip that end before they start, and of two that start at once. Rows of transfers.txt that stand twice. Timeframes that
 -- touch, or overlap under another group or service. Products that differ only in the rider category or the medium. Rules that
--- stand twice, and a count where both groups are empty.
+-- stand twice, a count where both groups are empty, and legs that join at a boarding area.
 abbrev pub edge_feed : FeedRows
 edge_feed =
     record base {
@@ -86,6 +86,9 @@ edge_feed =
           ∷ record (transfer_rule 0 0 0 None) { count = Some 1; limit = Some (record { seconds = 1; kind = 0 }) }
           ∷ record (transfer_rule 0 1 1 None) { to = None; limit = Some (record { seconds = 2147483647; kind = 3 }) }
           ∷ transfer_rule 0 1 2 (Some (record { 0 = 1 })) ∷ transfer_rule 0 1 2 (Some (record { 0 = 1 })) ∷ [];
+      join_rules =
+          join_rule 1 1 (Some (record { 0 = 6 })) (Some (record { 0 = 6 })) ∷ join_rule 0 1 None None
+          ∷ join_rule 1 1 (Some (record { 0 = 6 })) (Some (record { 0 = 6 })) ∷ [];
       service_names = codes "W" ∷ codes "M" ∷ [];
       frame_names = codes "early" ∷ codes "late" ∷ [];
       product_names = codes "single" ∷ codes "day" ∷ [];

@@ -5,9 +5,10 @@ use Rattle.std.specs.Prelude.{codes}
 use Rattle.feed_rows.specs.FeedRows.{FeedRows}
 use Rattle.feed_laws.proofs.SoundTests.{sound_from_test}
 use Rattle.feed_rows.specs.SoundFeed.{IsSoundFeed}
-use Rattle.feed_examples.specs.BaseFeed.{base, platform, call, ticket, transfer_rule}
+use Rattle.feed_examples.specs.BaseFeed.{base, platform, call, ticket, transfer_rule, join_rule}
 
--- the base feed with a station, an untimed stop time, a calendar row, a frequency, a link and fares by area and hour
+-- the base feed with a station, an untimed stop time, a calendar row, a frequency, a link, fares by area and hour, and legs that
+-- join
 abbrev pub full_feed : FeedRows
 full_feed =
     record base {
@@ -44,6 +45,7 @@ full_feed =
           transfer_rule 0 1 2 None
           ∷ record { from = Some (record { 0 = 0 }); to = Some (record { 0 = 0 }); count = Some 2; limit = Some (record { seconds = 3600; kind = 3 }); kind = 1; product = Some (record { 0 = 1 }) }
           ∷ [];
+      join_rules = join_rule 0 1 None None ∷ join_rule 1 1 (Some (record { 0 = 1 })) (Some (record { 0 = 3 })) ∷ [];
       frame_names = codes "early" ∷ codes "all day" ∷ [];
       has_priority = true;
     }

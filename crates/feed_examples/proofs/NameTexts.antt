@@ -13,12 +13,13 @@ files :
     map file_text
     (file.Stops ∷ file.Routes ∷ file.Trips ∷ file.StopTimes ∷ file.Calendar ∷ file.CalendarDates ∷ file.Frequencies
     ∷ file.Transfers ∷ file.Areas ∷ file.StopAreas ∷ file.Networks ∷ file.RouteNetworks ∷ file.Timeframes
-    ∷ file.RiderCategories ∷ file.FareMedia ∷ file.FareProducts ∷ file.FareLegRules ∷ file.FareTransferRules ∷ [])
+    ∷ file.RiderCategories ∷ file.FareMedia ∷ file.FareProducts ∷ file.FareLegRules ∷ file.FareTransferRules
+    ∷ file.FareLegJoinRules ∷ [])
     ≡ codes "stops.txt" ∷ codes "routes.txt" ∷ codes "trips.txt" ∷ codes "stop_times.txt" ∷ codes "calendar.txt"
     ∷ codes "calendar_dates.txt" ∷ codes "frequencies.txt" ∷ codes "transfers.txt" ∷ codes "areas.txt"
     ∷ codes "stop_areas.txt" ∷ codes "networks.txt" ∷ codes "route_networks.txt" ∷ codes "timeframes.txt"
     ∷ codes "rider_categories.txt" ∷ codes "fare_media.txt" ∷ codes "fare_products.txt" ∷ codes "fare_leg_rules.txt"
-    ∷ codes "fare_transfer_rules.txt" ∷ []
+    ∷ codes "fare_transfer_rules.txt" ∷ codes "fare_leg_join_rules.txt" ∷ []
 files = refl
 
 columns :
@@ -33,8 +34,9 @@ columns :
     ∷ column.FareMediaType ∷ column.FareProductId ∷ column.Currency ∷ column.Amount ∷ column.LegGroupId
     ∷ column.FromAreaId ∷ column.ToAreaId ∷ column.FromTimeframeGroupId ∷ column.ToTimeframeGroupId
     ∷ column.RulePriority ∷ column.FromLegGroupId ∷ column.ToLegGroupId ∷ column.TransferCount
-    ∷ column.DurationLimit ∷ column.DurationLimitType ∷ column.FareTransferType ∷ column.LocationGroupId
-    ∷ column.LocationId ∷ column.FromRouteId ∷ column.ToRouteId ∷ column.FromTripId ∷ column.ToTripId ∷ [])
+    ∷ column.DurationLimit ∷ column.DurationLimitType ∷ column.FareTransferType ∷ column.FromNetworkId
+    ∷ column.ToNetworkId ∷ column.LocationGroupId ∷ column.LocationId ∷ column.FromRouteId ∷ column.ToRouteId
+    ∷ column.FromTripId ∷ column.ToTripId ∷ [])
     ≡ codes "stop_id" ∷ codes "location_type" ∷ codes "parent_station" ∷ codes "route_id" ∷ codes "network_id"
     ∷ codes "service_id" ∷ codes "trip_id" ∷ codes "stop_sequence" ∷ codes "arrival_time" ∷ codes "departure_time"
     ∷ codes "pickup_type" ∷ codes "drop_off_type" ∷ codes "monday" ∷ codes "tuesday" ∷ codes "wednesday"
@@ -46,7 +48,8 @@ columns :
     ∷ codes "currency" ∷ codes "amount" ∷ codes "leg_group_id" ∷ codes "from_area_id" ∷ codes "to_area_id"
     ∷ codes "from_timeframe_group_id" ∷ codes "to_timeframe_group_id" ∷ codes "rule_priority"
     ∷ codes "from_leg_group_id" ∷ codes "to_leg_group_id" ∷ codes "transfer_count" ∷ codes "duration_limit"
-    ∷ codes "duration_limit_type" ∷ codes "fare_transfer_type" ∷ codes "location_group_id" ∷ codes "location_id"
+    ∷ codes "duration_limit_type" ∷ codes "fare_transfer_type" ∷ codes "from_network_id" ∷ codes "to_network_id"
+    ∷ codes "location_group_id" ∷ codes "location_id"
     ∷ codes "from_route_id" ∷ codes "to_route_id" ∷ codes "from_trip_id" ∷ codes "to_trip_id" ∷ []
 columns = refl
 
@@ -60,7 +63,8 @@ kinds :
     ∷ kind.LongRow ∷ kind.EmptyRequired ∷ kind.BadNumber ∷ kind.BadTime ∷ kind.BadDate ∷ kind.BadAmount
     ∷ kind.BadCurrency ∷ kind.MixedCurrency ∷ kind.DoubledKey ∷ kind.UnknownReference ∷ kind.BadParent
     ∷ kind.WrongStopKind ∷ kind.TimesDecrease ∷ kind.EndTimeMissing ∷ kind.TimeframeFault ∷ kind.TransferFields
-    ∷ kind.ForbiddenTogether ∷ kind.BadText ∷ kind.FlexRow ∷ kind.DatesReversed ∷ [])
+    ∷ kind.ForbiddenTogether ∷ kind.BadText ∷ kind.FlexRow ∷ kind.DatesReversed
+    ∷ kind.JoinStops ∷ [])
     ≡ (1, codes "MissingFile") ∷ (2, codes "FileTooLarge") ∷ (3, codes "NotUtf8") ∷ (4, codes "TooManyRows")
     ∷ (5, codes "MissingColumn") ∷ (6, codes "DoubledColumn") ∷ (7, codes "LongRow") ∷ (8, codes "EmptyRequired")
     ∷ (9, codes "BadNumber") ∷ (10, codes "BadTime") ∷ (11, codes "BadDate") ∷ (12, codes "BadAmount")
@@ -68,5 +72,5 @@ kinds :
     ∷ (16, codes "UnknownReference") ∷ (17, codes "BadParent") ∷ (18, codes "WrongStopKind")
     ∷ (19, codes "TimesDecrease") ∷ (20, codes "EndTimeMissing") ∷ (21, codes "TimeframeFault")
     ∷ (22, codes "TransferFields") ∷ (23, codes "ForbiddenTogether") ∷ (24, codes "BadText") ∷ (25, codes "FlexRow")
-    ∷ (26, codes "DatesReversed") ∷ []
+    ∷ (26, codes "DatesReversed") ∷ (27, codes "JoinStops") ∷ []
 kinds = refl

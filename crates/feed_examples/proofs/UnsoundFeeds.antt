@@ -1,10 +1,10 @@
 -- Feeds with one value just past its edge, each of which has a fault: so the facts that are said of a feed ask no less.
-use Rattle.std.proofs.Common.{refl, ℕ, List, [], ◌∷◌, Some, None, true, pos, negsuc, arith}
+use Rattle.std.proofs.Common.{◌≡◌, refl, ℕ, List, [], ◌∷◌, Some, None, true, false, pos, negsuc, arith}
 use Rattle.std.specs.Prelude.{codes}
 use Rattle.std.proofs.lemmas.Int.{ints}
 use Rattle.feed_rows.specs.FeedRows.{FeedRows}
 use Rattle.feed_rows.specs.SoundFeed.{IsSoundFeed}
-use Rattle.feed_examples.specs.BaseFeed.{base, platform, trip, network_rule, transfer_rule}
+use Rattle.feed_examples.specs.BaseFeed.{base, platform, trip, network_rule, transfer_rule, join_rule}
 use Rattle.feed_examples.proofs.CornerRides.{timed, frequency}
 use Rattle.feed_examples.proofs.EdgeFeed.{long_text, calendar, added, timeframe, link_row, offer}
 
@@ -215,6 +215,29 @@ limit_past_its_limit sound = let no = (sound.transfer_rules.limits 0 (transfer_r
 
 fifth_limit_kind : IsFaulty (record base { transfer_rules = record (transfer_rule 0 0 0 None) { limit = Some (record { seconds = 1; kind = 4 }) } ∷ [] })
 fifth_limit_kind sound = let no = sound.transfer_rules.limit_kinds 0 (transfer_rule 0 0 0 None) (omega arith) (record { seconds = 1; kind = 4 }) refl in absurd (omega (arith, no))
+
+-- rules by which legs join: networks without a name, stops without a row, and one stop without the other
+join_from_no_network : IsFaulty (record base { join_rules = join_rule 2 0 None None ∷ [] })
+join_from_no_network sound = let no = sound.join_rules.from_networks 0 (join_rule 0 0 None None) (omega arith) in absurd (omega (arith, no))
+
+join_to_no_network : IsFaulty (record base { join_rules = join_rule 0 2 None None ∷ [] })
+join_to_no_network sound = let no = sound.join_rules.to_networks 0 (join_rule 0 0 None None) (omega arith) in absurd (omega (arith, no))
+
+join_from_no_stop : IsFaulty (record base { join_rules = join_rule 0 1 (Some (record { 0 = 3 })) (Some (record { 0 = 0 })) ∷ [] })
+join_from_no_stop sound =
+    let no = sound.join_rules.from_stops 0 (join_rule 0 0 None None) (omega arith) (record { 0 = 3 }) refl in absurd (omega (arith, no))
+
+join_to_no_stop : IsFaulty (record base { join_rules = join_rule 0 1 (Some (record { 0 = 0 })) (Some (record { 0 = 3 })) ∷ [] })
+join_to_no_stop sound =
+    let no = sound.join_rules.to_stops 0 (join_rule 0 0 None None) (omega arith) (record { 0 = 3 }) refl in absurd (omega (arith, no))
+
+join_from_one_stop : IsFaulty (record base { join_rules = join_rule 0 1 (Some (record { 0 = 0 })) None ∷ [] })
+join_from_one_stop sound =
+    absurd (let no : false ≡ true = (sound.join_rules.both_stops 0 (join_rule 0 0 None None) (omega arith)).0 refl in cc)
+
+join_to_one_stop : IsFaulty (record base { join_rules = join_rule 0 1 None (Some (record { 0 = 0 })) ∷ [] })
+join_to_one_stop sound =
+    absurd (let no : false ≡ true = (sound.join_rules.both_stops 0 (join_rule 0 0 None None) (omega arith)).1 refl in cc)
 
 -- currencies: four letters, a small letter, the character before A, one decimal, a currency without products, and none with decimals of another
 four_letters : IsFaulty (record base { currency = Some (codes "EURO") })

@@ -6,10 +6,12 @@ use Rattle.feed_rows.specs.declared.rows.StopTimeRow.{StopTimeRow}
 use Rattle.feed_rows.specs.declared.rows.ProductRow.{ProductRow}
 use Rattle.feed_rows.specs.declared.rows.LegRuleRow.{LegRuleRow}
 use Rattle.feed_rows.specs.declared.rows.TransferRuleRow.{TransferRuleRow}
+use Rattle.feed_rows.specs.declared.rows.JoinRow.{JoinRow}
 use Rattle.feed_rows.specs.declared.journeys.Buyer.{Buyer}
 use Rattle.feed_rows.specs.declared.journeys.Query.{Query}
 use Rattle.feed_rows.specs.FeedRows.{FeedRows}
 use Rattle.transit_base.specs.declared.ProductId.{ProductId}
+use Rattle.transit_base.specs.declared.StopId.{StopId}
 
 -- a platform without a station
 abbrev pub platform : List ℕ → StopRow
@@ -62,6 +64,16 @@ transfer_rule from to kind product =
       product = product;
     }
 
+-- a rule by which legs join, from one network to another, and from one stop to another if it names them
+abbrev pub join_rule : ℕ → ℕ → Option StopId → Option StopId → JoinRow
+join_rule from to from_stop to_stop =
+    record {
+      from_network = record { 0 = from };
+      to_network = record { 0 = to };
+      from_stop = from_stop;
+      to_stop = to_stop;
+    }
+
 -- the base feed: stops A, B, C; routes R1 (bus) and R2 (rail); trips T1, T2, T3 on 2025-06-02, which is day 20241
 abbrev pub base : FeedRows
 base =
@@ -84,6 +96,7 @@ base =
       products = ticket 0 250 ∷ ticket 1 400 ∷ ticket 2 50 ∷ [];
       leg_rules = network_rule 0 0 0 ∷ network_rule 1 1 1 ∷ [];
       transfer_rules = transfer_rule 0 1 0 (Some (record { 0 = 2 })) ∷ [];
+      join_rules = [];
       service_names = codes "W" ∷ [];
       network_names = codes "bus" ∷ codes "rail" ∷ [];
       frame_names = [];

@@ -207,3 +207,9 @@ fare_transfer_rules : judged file.FareTransferRules
     ∷ (column.FareProductId, empty.Fine, any_id) ∷ []
 unfolding grammars_on_literals
 fare_transfer_rules = refl
+
+fare_leg_join_rules : judged file.FareLegJoinRules
+    ≡ (column.FromNetworkId, empty.Fault, any_id) ∷ (column.ToNetworkId, empty.Fault, any_id)
+    ∷ (column.FromStopId, empty.Fine, any_id) ∷ (column.ToStopId, empty.Fine, any_id) ∷ []
+unfolding grammars_on_literals
+fare_leg_join_rules = refl

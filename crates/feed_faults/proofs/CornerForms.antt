@@ -27,7 +27,8 @@ all_files : List (List ℕ)
 all_files =
     codes "stops.txt" ∷ codes "routes.txt" ∷ codes "trips.txt" ∷ codes "stop_times.txt" ∷ codes "calendar.txt" ∷ codes "calendar_dates.txt"
     ∷ codes "frequencies.txt" ∷ codes "transfers.txt" ∷ codes "areas.txt" ∷ codes "stop_areas.txt" ∷ codes "networks.txt" ∷ codes "route_networks.txt"
-    ∷ codes "timeframes.txt" ∷ codes "rider_categories.txt" ∷ codes "fare_media.txt" ∷ codes "fare_products.txt" ∷ codes "fare_leg_rules.txt" ∷ codes "fare_transfer_rules.txt" ∷ []
+    ∷ codes "timeframes.txt" ∷ codes "rider_categories.txt" ∷ codes "fare_media.txt" ∷ codes "fare_products.txt" ∷ codes "fare_leg_rules.txt" ∷ codes "fare_transfer_rules.txt"
+    ∷ codes "fare_leg_join_rules.txt" ∷ []
 
 -- the full feed, with these files no text
 no_text : List (List ℕ) → Folder
@@ -43,7 +44,8 @@ faults_without_first (name ∷ names) = first_form_fault (files_in (no_text (nam
 order_of_files : faults_without_first all_files
     ≡ map (λ f. plain_fault kind.NotUtf8 f 0)
     (file.Stops ∷ file.Routes ∷ file.Trips ∷ file.StopTimes ∷ file.Calendar ∷ file.CalendarDates ∷ file.Frequencies ∷ file.Transfers ∷ file.Areas
-    ∷ file.StopAreas ∷ file.Networks ∷ file.RouteNetworks ∷ file.Timeframes ∷ file.RiderCategories ∷ file.FareMedia ∷ file.FareProducts ∷ file.FareLegRules ∷ file.FareTransferRules ∷ [])
+    ∷ file.StopAreas ∷ file.Networks ∷ file.RouteNetworks ∷ file.Timeframes ∷ file.RiderCategories ∷ file.FareMedia ∷ file.FareProducts ∷ file.FareLegRules ∷ file.FareTransferRules
+    ∷ file.FareLegJoinRules ∷ [])
     ++ None ∷ []
 unfolding feeds_on_literals all_files no_text faults_without_first
 order_of_files = refl

@@ -52,7 +52,8 @@ bad_rows =
     ∷ (codes "fare_media.txt", codes "card,\n", fault kind.DoubledKey file.FareMedia 3 column.FareMediaId)
     ∷ (codes "fare_products.txt", codes "single,senior,,1,KWD\n", fault kind.UnknownReference file.FareProducts 5 column.RiderCategoryId)
     ∷ (codes "fare_leg_rules.txt", codes ",,,,,,half,\n", fault kind.UnknownReference file.FareLegRules 4 column.FareProductId)
-    ∷ (codes "fare_transfer_rules.txt", codes "gx,,,,,0,\n", fault kind.UnknownReference file.FareTransferRules 5 column.FromLegGroupId) ∷ []
+    ∷ (codes "fare_transfer_rules.txt", codes "gx,,,,,0,\n", fault kind.UnknownReference file.FareTransferRules 5 column.FromLegGroupId)
+    ∷ (codes "fare_leg_join_rules.txt", codes "n1,n9,,\n", fault kind.UnknownReference file.FareLegJoinRules 3 column.ToNetworkId) ∷ []
 
 -- of files that all have a fault, the first in order is told; the full feed has none
 order_of_files : faults_without_first bad_rows ≡ map (λ bad. bad.2) bad_rows ++ None ∷ []

@@ -30,6 +30,7 @@ full =
     ∷ (codes "fare_products.txt", codes "fare_product_id,rider_category_id,fare_media_id,amount,currency\nsingle,adult,card,2.505,KWD\nsingle,child,,1.2,KWD\nrail,,,4,KWD\nbonus,,cash,-0.300,KWD\n")
     ∷ (codes "fare_leg_rules.txt", codes "leg_group_id,network_id,from_area_id,to_area_id,from_timeframe_group_id,to_timeframe_group_id,fare_product_id,rule_priority\ng1,n2,z1,,peak,,single,1\n,,,,,,rail,\ng2,n1,,z2,,all,rail,007\n")
     ∷ (codes "fare_transfer_rules.txt", codes "from_leg_group_id,to_leg_group_id,transfer_count,duration_limit,duration_limit_type,fare_transfer_type,fare_product_id\ng1,g1,-1,3600,1,0,\ng1,g1,3,,,1,bonus\ng1,g2,,,,2,bonus\n,,,900,3,0,\n")
+    ∷ (codes "fare_leg_join_rules.txt", codes "from_network_id,to_network_id,from_stop_id,to_stop_id\nn2,n1,B,P\nn2,n2,,\n")
     ∷ []
 
 -- its rows: services by first appearance are S2 and S1 of the trips, S0 of the calendar and S3 of the exceptions
@@ -76,6 +77,8 @@ full_read : feed_of (files_in full)
           ∷ record { from = Some (record { 0 = 0 }); to = Some (record { 0 = 0 }); count = Some 3; limit = None; kind = 1; product = Some (record { 0 = 2 }) }
           ∷ record { from = Some (record { 0 = 0 }); to = Some (record { 0 = 1 }); count = None; limit = None; kind = 2; product = Some (record { 0 = 2 }) }
           ∷ record { from = None; to = None; count = None; limit = Some (record { seconds = 900; kind = 3 }); kind = 0; product = None } ∷ [];
+      join_rules = record { from_network = record { 0 = 1 }; to_network = record { 0 = 0 }; from_stop = Some (record { 0 = 2 }); to_stop = Some (record { 0 = 0 }) }
+          ∷ record { from_network = record { 0 = 1 }; to_network = record { 0 = 1 }; from_stop = None; to_stop = None } ∷ [];
       service_names = codes "S2" ∷ codes "S1" ∷ codes "S0" ∷ codes "S3" ∷ [];
       network_names = codes "n1" ∷ codes "n2" ∷ [];
       frame_names = codes "peak" ∷ codes "all" ∷ [];

@@ -16,3 +16,4 @@ pub mod CornerFields
 pub mod CornerForms
 pub mod CornerRelations
 pub mod CornerRows
+pub mod JoinChecks

@@ -27,6 +27,7 @@ use Rattle.feed_rows.specs.declared.rows.ProductRow.{ProductRow}
 use Rattle.feed_rows.specs.declared.rows.LegRuleRow.{LegRuleRow}
 use Rattle.feed_rows.specs.declared.rows.Limit.{Limit}
 use Rattle.feed_rows.specs.declared.rows.TransferRuleRow.{TransferRuleRow}
+use Rattle.feed_rows.specs.declared.rows.JoinRow.{JoinRow}
 use Rattle.feed_rows.specs.Codes.{platform_type, not_available, service_available, service_added, change_forbidden, default_category}
 use Rattle.feed_rows.specs.FeedRows.{FeedRows}
 use Rattle.feed_files.specs.HeldFiles.{HeldFile}
@@ -299,6 +300,19 @@ transfer_rule_row t row =
       product = if_filled product (record { 0 = name_number (product_names t) product });
     }
 
+-- fare_leg_join_rules.txt
+unfoldable pub join_row : FeedTables → ℕ → JoinRow
+join_row t row =
+    let at = field (table_in t file.FareLegJoinRules) row in
+    let from_stop = at column.FromStopId in
+    let to_stop = at column.ToStopId in
+    record {
+      from_network = record { 0 = name_number (network_names t) (at column.FromNetworkId) };
+      to_network = record { 0 = name_number (network_names t) (at column.ToNetworkId) };
+      from_stop = if_filled from_stop (record { 0 = row_number (table_in t file.Stops) column.StopId from_stop });
+      to_stop = if_filled to_stop (record { 0 = row_number (table_in t file.Stops) column.StopId to_stop });
+    }
+
 -- the currency of the products, if there is one
 unfoldable pub feed_currency : FileTable → Option (List ℕ)
 feed_currency products = when (nat_lt 0 (row_count products)) (field products 0 column.Currency)
@@ -331,6 +345,7 @@ rows_of_tables t =
       products = typed_rows (table_in t file.FareProducts) (product_row t);
       leg_rules = typed_rows (table_in t file.FareLegRules) (leg_rule_row t);
       transfer_rules = typed_rows (table_in t file.FareTransferRules) (transfer_rule_row t);
+      join_rules = typed_rows (table_in t file.FareLegJoinRules) (join_row t);
       service_names = service_names t;
       network_names = network_names t;
       frame_names = frame_names t;

@@ -1,6 +1,6 @@
--- Timeframes, products and transfer rules, among the rows of their file.
+-- Timeframes, products, transfer rules and rules by which legs join, among the rows of their file.
 use Rattle.std.specs.Prelude.{ℕ, ◌&&◌, ◌||◌, not, nat_lt, if◌then◌else◌, Bool, List, bytes_eq}
-use Rattle.feed_files.specs.declared.names.ColumnName.TheVariants.{ServiceId, TimeframeGroupId, StartTime, EndTime, RiderCategoryId, FareMediaId, FareProductId, Currency, FromLegGroupId, ToLegGroupId, TransferCount, DurationLimit, DurationLimitType}
+use Rattle.feed_files.specs.declared.names.ColumnName.TheVariants.{ServiceId, TimeframeGroupId, StartTime, EndTime, RiderCategoryId, FareMediaId, FareProductId, Currency, FromStopId, ToStopId, FromLegGroupId, ToLegGroupId, TransferCount, DurationLimit, DurationLimitType}
 use Rattle.feed_faults.specs.Records.{FileTable, field, is_filled}
 use Rattle.feed_faults.specs.FieldValues.{frame_start, frame_end}
 use Rattle.feed_faults.specs.RowKeys.{same_field, is_repeated}
@@ -43,3 +43,7 @@ is_count_misplaced rules row =
 -- a limit without its type, or a type without a limit (fare_transfer_rules.txt: duration_limit_type)
 unfoldable pub is_limit_half : FileTable → ℕ → Bool
 is_limit_half rules row = is_one_filled (field rules row DurationLimit) (field rules row DurationLimitType)
+
+-- one of the two stops between which legs join is named without the other (fare_leg_join_rules.txt: from_stop_id, to_stop_id)
+unfoldable pub is_one_stop_named : FileTable → ℕ → Bool
+is_one_stop_named joins row = is_one_filled (field joins row FromStopId) (field joins row ToStopId)

@@ -9,7 +9,7 @@ use Rattle.feed_faults.specs.declared.columns.Grammar.{Grammar}
 use Rattle.feed_faults.specs.declared.columns.Grammar.TheVariants as grammar
 use Rattle.feed_faults.specs.declared.columns.ColumnRule.{ColumnRule}
 use Rattle.feed_faults.specs.declared.checks.RowRule.{RowRule}
-use Rattle.feed_faults.specs.declared.files.TheConstants.{STOPS, ROUTES, TRIPS, STOP_TIMES, CALENDAR, CALENDAR_DATES, FREQUENCIES, TRANSFERS, AREAS, STOP_AREAS, NETWORKS, ROUTE_NETWORKS, TIMEFRAMES, RIDER_CATEGORIES, FARE_MEDIA, FARE_PRODUCTS, FARE_LEG_RULES, FARE_TRANSFER_RULES}
+use Rattle.feed_faults.specs.declared.files.TheConstants.{STOPS, ROUTES, TRIPS, STOP_TIMES, CALENDAR, CALENDAR_DATES, FREQUENCIES, TRANSFERS, AREAS, STOP_AREAS, NETWORKS, ROUTE_NETWORKS, TIMEFRAMES, RIDER_CATEGORIES, FARE_MEDIA, FARE_PRODUCTS, FARE_LEG_RULES, FARE_TRANSFER_RULES, FARE_LEG_JOIN_RULES}
 use Rattle.feed_rows.specs.TimeGrammar.{time_value}
 use Rattle.feed_faults.specs.FieldGrammars.{is_id, int_value, count_value, date_value, currency_decimals, amount_in}
 
@@ -34,6 +34,7 @@ rule_of file.FareMedia = (FARE_MEDIA.0, FARE_MEDIA.1.now, FARE_MEDIA.2.now)
 rule_of file.FareProducts = (FARE_PRODUCTS.0, FARE_PRODUCTS.1.now, FARE_PRODUCTS.2.now)
 rule_of file.FareLegRules = (FARE_LEG_RULES.0, FARE_LEG_RULES.1.now, FARE_LEG_RULES.2.now)
 rule_of file.FareTransferRules = (FARE_TRANSFER_RULES.0, FARE_TRANSFER_RULES.1.now, FARE_TRANSFER_RULES.2.now)
+rule_of file.FareLegJoinRules = (FARE_LEG_JOIN_RULES.0, FARE_LEG_JOIN_RULES.1.now, FARE_LEG_JOIN_RULES.2.now)
 
 abbrev pub is_always_needed : FileName → Bool
 is_always_needed file = (rule_of file).0

@@ -16,10 +16,10 @@ use Rattle.feed_faults.specs.StopRelations.{has_parent, is_at_station}
 use Rattle.feed_faults.specs.StopTimeRelations.{stop_time_of, stop_times_of, same_place, comes_before, is_first, is_last, is_end_time_missing, is_nearest_before, do_times_decrease, is_at_platform}
 use Rattle.feed_faults.specs.ServiceRelations.{are_dates_reversed, same_exception, same_start}
 use Rattle.feed_faults.specs.NetworkRelations.{has_own_networks, are_networks_forbidden}
-use Rattle.feed_faults.specs.FareRelations.{do_frames_overlap, is_bad_frame, same_product, is_currency_mixed, is_count_misplaced, is_limit_half}
+use Rattle.feed_faults.specs.FareRelations.{do_frames_overlap, is_bad_frame, same_product, is_currency_mixed, is_count_misplaced, is_limit_half, is_one_stop_named}
 use Rattle.feed_faults.specs.RowChecks.{relation_fault_of_row}
 use Rattle.feed_faults.specs.FirstFault.{relation_fault, first_relation_fault, first_fault}
-use Rattle.feed_faults.specs.AcceptedFeed.{place_of_name, with_name, service_names, network_names, frame_names, product_names, group_names, accepted_parent, stop_row, network_of_route, route_row, trip_row, stop_time_row, service_row, exception_row, frequency_row, link_row, area_row, stop_area_row, timeframe_row, rider_row, medium_row, product_row, leg_rule_row, limit_of, transfer_rule_row, feed_currency, feed_decimals, rows_of_tables, feed_of}
+use Rattle.feed_faults.specs.AcceptedFeed.{place_of_name, with_name, service_names, network_names, frame_names, product_names, group_names, accepted_parent, stop_row, network_of_route, route_row, trip_row, stop_time_row, service_row, exception_row, frequency_row, link_row, area_row, stop_area_row, timeframe_row, rider_row, medium_row, product_row, leg_rule_row, limit_of, transfer_rule_row, join_row, feed_currency, feed_decimals, rows_of_tables, feed_of}
 
 -- the grammars of fields
 unfoldable pub grammars_on_literals : ⊤
@@ -35,14 +35,14 @@ forms_on_literals = tt
 unfoldable pub relations_on_literals : ⊤
 unfolding grammars_on_literals column_of field is_passed_over int_or_zero time_or day_or_zero amount_or_zero row_of is_doubled
     has_parent is_at_station stop_time_of stop_times_of same_place comes_before is_first is_last is_end_time_missing is_nearest_before do_times_decrease is_at_platform
-    are_dates_reversed same_exception same_start has_own_networks are_networks_forbidden do_frames_overlap is_bad_frame same_product is_currency_mixed is_count_misplaced is_limit_half
+    are_dates_reversed same_exception same_start has_own_networks are_networks_forbidden do_frames_overlap is_bad_frame same_product is_currency_mixed is_count_misplaced is_limit_half is_one_stop_named
     relation_fault_of_row relation_fault first_relation_fault
 relations_on_literals = tt
 
 -- the rows of tables
 unfoldable pub rows_on_literals : ⊤
 unfolding grammars_on_literals column_of field is_passed_over int_or_zero time_or day_or_zero amount_or_zero row_of
-    place_of_name with_name service_names network_names frame_names product_names group_names accepted_parent stop_row network_of_route route_row trip_row stop_time_row service_row exception_row frequency_row link_row area_row stop_area_row timeframe_row rider_row medium_row product_row leg_rule_row limit_of transfer_rule_row feed_currency feed_decimals rows_of_tables
+    place_of_name with_name service_names network_names frame_names product_names group_names accepted_parent stop_row network_of_route route_row trip_row stop_time_row service_row exception_row frequency_row link_row area_row stop_area_row timeframe_row rider_row medium_row product_row leg_rule_row limit_of transfer_rule_row join_row feed_currency feed_decimals rows_of_tables
 rows_on_literals = tt
 
 -- the tables of bytes

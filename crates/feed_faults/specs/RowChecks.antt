@@ -10,7 +10,7 @@ use Rattle.feed_faults.specs.declared.checks.IdColumn.{IdColumn}
 use Rattle.feed_faults.specs.declared.checks.IdColumn.TheVariants.{Stop, Trip, Route, RouteNetwork, Calendar, CalendarDate, Area, Network, NetworkRoute, TimeframeGroup, RiderCategory, FareMedia, FareProduct, LegGroup}
 use Rattle.feed_faults.specs.declared.checks.RowCheck.{RowCheck}
 use Rattle.feed_faults.specs.declared.checks.RowRule.{RowRule}
-use Rattle.feed_faults.specs.declared.checks.RowCheck.TheVariants.{NewId, NewKey, Known, KnownInOne, KnownParent, GoodParent, AtPlatform, TimedEnds, RisingTimes, OrderedDays, GoodTimeframe, OneCurrency, GoodCount, WholeLimit}
+use Rattle.feed_faults.specs.declared.checks.RowCheck.TheVariants.{NewId, NewKey, Known, KnownInOne, KnownParent, GoodParent, AtPlatform, TimedEnds, RisingTimes, OrderedDays, GoodTimeframe, OneCurrency, GoodCount, WholeLimit, BothStops}
 use Rattle.plain_laws.specs.Plain.{when, first_in}
 use Rattle.feed_faults.specs.Records.{FileTable, field}
 use Rattle.feed_faults.specs.FileColumns.{checks_of}
@@ -21,7 +21,7 @@ use Rattle.feed_faults.specs.RowKeys.{is_unknown, is_repeated, is_doubled}
 use Rattle.feed_faults.specs.StopRelations.{has_parent, is_parent_good}
 use Rattle.feed_faults.specs.StopTimeRelations.{stop_times_of, same_place, is_end_time_missing, do_times_decrease, is_at_platform}
 use Rattle.feed_faults.specs.ServiceRelations.{are_dates_reversed, same_exception, same_start}
-use Rattle.feed_faults.specs.FareRelations.{is_bad_frame, same_product, is_currency_mixed, is_count_misplaced, is_limit_half}
+use Rattle.feed_faults.specs.FareRelations.{is_bad_frame, same_product, is_currency_mixed, is_count_misplaced, is_limit_half, is_one_stop_named}
 
 -- the file and the name of a column of ids
 abbrev pub id_place : IdColumn → FileName × ColumnName
@@ -77,6 +77,7 @@ check_fails t name told row GoodTimeframe = is_bad_frame (table_in t name) row
 check_fails t name told row OneCurrency = is_currency_mixed (table_in t name) row
 check_fails t name told row GoodCount = is_count_misplaced (table_in t name) row
 check_fails t name told row WholeLimit = is_limit_half (table_in t name) row
+check_fails t name told row BothStops = is_one_stop_named (table_in t name) row
 
 abbrev pub fails : FeedTables → FileName → RowRule → ℕ → Bool
 fails t name rule row = check_fails t name rule.column row rule.check

@@ -92,6 +92,8 @@ pub enum RowCheck {
     GoodCount,
     /// A transfer rule with a limit has its type, and one without has none.
     WholeLimit,
+    /// A rule by which legs join names both its stops or neither.
+    BothStops,
 }
 
 /// What is checked of a row, and how it is told that it fails.

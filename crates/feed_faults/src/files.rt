@@ -315,6 +315,23 @@ const FARE_TRANSFER_RULES: Row = (
     ],
 );
 
+const FARE_LEG_JOIN_RULES: Row = (
+    false,
+    &[
+        must!(FromNetworkId, Id),
+        must!(ToNetworkId, Id),
+        may!(FromStopId, Id),
+        may!(ToStopId, Id),
+    ],
+    &[
+        known!(FromNetworkId, RouteNetwork, Network),
+        known!(ToNetworkId, RouteNetwork, Network),
+        known!(FromStopId, Stop),
+        known!(ToStopId, Stop),
+        rule!(ToStopId, JoinStops, RowCheck::BothStops),
+    ],
+);
+
 /// What a file is judged by.
 pub fn rule_of(file: FileName) -> FileRule
     ensures needed { result.is_needed ≡ is_always_needed file }
@@ -340,6 +357,7 @@ pub fn rule_of(file: FileName) -> FileRule
         FileName::FareProducts => FARE_PRODUCTS,
         FileName::FareLegRules => FARE_LEG_RULES,
         FileName::FareTransferRules => FARE_TRANSFER_RULES,
+        FileName::FareLegJoinRules => FARE_LEG_JOIN_RULES,
     };
     FileRule {
         is_needed,

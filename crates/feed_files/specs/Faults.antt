@@ -31,6 +31,7 @@ fault_number kind.ForbiddenTogether = 23
 fault_number kind.BadText = 24
 fault_number kind.FlexRow = 25
 fault_number kind.DatesReversed = 26
+fault_number kind.JoinStops = 27
 
 -- a fault's name
 abbrev pub fault_text : FaultKind → List ℕ
@@ -60,3 +61,4 @@ fault_text kind.ForbiddenTogether = codes "ForbiddenTogether"
 fault_text kind.BadText = codes "BadText"
 fault_text kind.FlexRow = codes "FlexRow"
 fault_text kind.DatesReversed = codes "DatesReversed"
+fault_text kind.JoinStops = codes "JoinStops"

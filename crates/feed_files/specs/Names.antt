@@ -10,7 +10,8 @@ abbrev pub all_files : List FileName
 all_files =
     file.Stops ∷ file.Routes ∷ file.Trips ∷ file.StopTimes ∷ file.Calendar ∷ file.CalendarDates ∷ file.Frequencies
     ∷ file.Transfers ∷ file.Areas ∷ file.StopAreas ∷ file.Networks ∷ file.RouteNetworks ∷ file.Timeframes
-    ∷ file.RiderCategories ∷ file.FareMedia ∷ file.FareProducts ∷ file.FareLegRules ∷ file.FareTransferRules ∷ []
+    ∷ file.RiderCategories ∷ file.FareMedia ∷ file.FareProducts ∷ file.FareLegRules ∷ file.FareTransferRules
+    ∷ file.FareLegJoinRules ∷ []
 
 -- the place of a file in that order
 abbrev pub place : FileName → ℕ
@@ -32,6 +33,7 @@ place file.FareMedia = 14
 place file.FareProducts = 15
 place file.FareLegRules = 16
 place file.FareTransferRules = 17
+place file.FareLegJoinRules = 18
 
 -- a file's name in the folder
 abbrev pub file_text : FileName → List ℕ
@@ -53,6 +55,7 @@ file_text file.FareMedia = codes "fare_media.txt"
 file_text file.FareProducts = codes "fare_products.txt"
 file_text file.FareLegRules = codes "fare_leg_rules.txt"
 file_text file.FareTransferRules = codes "fare_transfer_rules.txt"
+file_text file.FareLegJoinRules = codes "fare_leg_join_rules.txt"
 
 -- the columns that are read, in the order in which they are declared
 abbrev pub all_columns : List ColumnName
@@ -67,8 +70,9 @@ all_columns =
     column.FareMediaType ∷ column.FareProductId ∷ column.Currency ∷ column.Amount ∷ column.LegGroupId ∷
     column.FromAreaId ∷ column.ToAreaId ∷ column.FromTimeframeGroupId ∷ column.ToTimeframeGroupId ∷
     column.RulePriority ∷ column.FromLegGroupId ∷ column.ToLegGroupId ∷ column.TransferCount ∷ column.DurationLimit ∷
-    column.DurationLimitType ∷ column.FareTransferType ∷ column.LocationGroupId ∷ column.LocationId ∷
-    column.FromRouteId ∷ column.ToRouteId ∷ column.FromTripId ∷ column.ToTripId ∷ []
+    column.DurationLimitType ∷ column.FareTransferType ∷ column.FromNetworkId ∷ column.ToNetworkId ∷
+    column.LocationGroupId ∷ column.LocationId ∷ column.FromRouteId ∷ column.ToRouteId ∷ column.FromTripId ∷
+    column.ToTripId ∷ []
 
 -- a column's name in a header
 abbrev pub column_text : ColumnName → List ℕ
@@ -124,6 +128,8 @@ column_text column.TransferCount = codes "transfer_count"
 column_text column.DurationLimit = codes "duration_limit"
 column_text column.DurationLimitType = codes "duration_limit_type"
 column_text column.FareTransferType = codes "fare_transfer_type"
+column_text column.FromNetworkId = codes "from_network_id"
+column_text column.ToNetworkId = codes "to_network_id"
 column_text column.LocationGroupId = codes "location_group_id"
 column_text column.LocationId = codes "location_id"
 column_text column.FromRouteId = codes "from_route_id"

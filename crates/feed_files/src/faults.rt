@@ -59,10 +59,12 @@ pub enum FaultKind {
     FlexRow,
     /// The start date lies after the end date.
     DatesReversed,
+    /// A rule by which legs join names one of its two stops without the other.
+    JoinStops,
 }
 
 impl FaultKind {
-    /// The fault's number, from 1 to 26.
+    /// The fault's number, from 1 to 27.
     pub fn number(self) -> u8
         ensures { result ≡ fault_number self }
     {
@@ -93,6 +95,7 @@ impl FaultKind {
             FaultKind::BadText => 24,
             FaultKind::FlexRow => 25,
             FaultKind::DatesReversed => 26,
+            FaultKind::JoinStops => 27,
         }
     }
 
@@ -127,6 +130,7 @@ impl FaultKind {
             FaultKind::BadText => "BadText",
             FaultKind::FlexRow => "FlexRow",
             FaultKind::DatesReversed => "DatesReversed",
+            FaultKind::JoinStops => "JoinStops",
         }
     }
 }

@@ -41,10 +41,12 @@ pub enum FileName {
     FareLegRules,
     /// `fare_transfer_rules.txt`
     FareTransferRules,
+    /// `fare_leg_join_rules.txt`
+    FareLegJoinRules,
 }
 
 impl FileName {
-    const ALL: [FileName; 18] = [
+    const ALL: [FileName; 19] = [
         FileName::Stops,
         FileName::Routes,
         FileName::Trips,
@@ -63,6 +65,7 @@ impl FileName {
         FileName::FareProducts,
         FileName::FareLegRules,
         FileName::FareTransferRules,
+        FileName::FareLegJoinRules,
     ];
 
     /// The files of a feed, in the order in which they are read and judged.
@@ -95,6 +98,7 @@ impl FileName {
             FileName::FareProducts => "fare_products.txt",
             FileName::FareLegRules => "fare_leg_rules.txt",
             FileName::FareTransferRules => "fare_transfer_rules.txt",
+            FileName::FareLegJoinRules => "fare_leg_join_rules.txt",
         }
     }
 }
@@ -206,6 +210,10 @@ pub enum ColumnName {
     DurationLimitType,
     /// `fare_transfer_type`
     FareTransferType,
+    /// `from_network_id`
+    FromNetworkId,
+    /// `to_network_id`
+    ToNetworkId,
     /// `location_group_id`
     LocationGroupId,
     /// `location_id`
@@ -221,7 +229,7 @@ pub enum ColumnName {
 }
 
 impl ColumnName {
-    const ALL: [ColumnName; 58] = [
+    const ALL: [ColumnName; 60] = [
         ColumnName::StopId,
         ColumnName::LocationType,
         ColumnName::ParentStation,
@@ -274,6 +282,8 @@ impl ColumnName {
         ColumnName::DurationLimit,
         ColumnName::DurationLimitType,
         ColumnName::FareTransferType,
+        ColumnName::FromNetworkId,
+        ColumnName::ToNetworkId,
         ColumnName::LocationGroupId,
         ColumnName::LocationId,
         ColumnName::FromRouteId,
@@ -346,6 +356,8 @@ impl ColumnName {
             ColumnName::DurationLimit => "duration_limit",
             ColumnName::DurationLimitType => "duration_limit_type",
             ColumnName::FareTransferType => "fare_transfer_type",
+            ColumnName::FromNetworkId => "from_network_id",
+            ColumnName::ToNetworkId => "to_network_id",
             ColumnName::LocationGroupId => "location_group_id",
             ColumnName::LocationId => "location_id",
             ColumnName::FromRouteId => "from_route_id",

@@ -14,7 +14,7 @@ use Rattle.feed_rows.specs.FeedRows.{FeedRows}
 use Rattle.feed_rows.specs.Calls.{first_time, last_time}
 use Rattle.feed_rows.specs.SoundNames.{IsIdText, IsNameList}
 use Rattle.feed_rows.specs.SoundTimetable.{IsCalendarDay, EndsBy, IsFirstCall, IsLastCall, AreSoundStops, AreSoundRoutes, AreSoundTrips, AreSoundStopTimes, AreOrderedCalls, AreSoundServices, AreSoundExceptions, AreSoundFrequencies, AreSoundLinks}
-use Rattle.feed_rows.specs.SoundFares.{AreSoundAreas, AreSoundStopAreas, AreSoundTimeframes, AreSoundRiders, AreSoundMedia, AreSoundProducts, AreSoundLegRules, AreSoundTransferRules, IsSoundCurrency}
+use Rattle.feed_rows.specs.SoundFares.{AreSoundAreas, AreSoundStopAreas, AreSoundTimeframes, AreSoundRiders, AreSoundMedia, AreSoundProducts, AreSoundLegRules, AreSoundTransferRules, AreSoundJoinRules, IsSoundCurrency}
 use Rattle.feed_rows.specs.SoundFeed.{IsSoundFeed}
 use Rattle.plain_laws.proofs.Decisions.{Test, ask, and_so, found, is_true, is_false, at_most, below, is, int_at_most, int_is, is_text, isnt, both, all_three, either, given, likewise, each, each_pair, for_some, for_item, same_field}
 
@@ -320,6 +320,25 @@ transfer_rules_test feed =
       limit_kinds = limit_kinds;
     }))))))))))
 
+-- the rules by which legs join
+abbrev join_rules_test : (feed : FeedRows) → Option (AreSoundJoinRules feed)
+join_rules_test feed =
+    ask (at_most (length feed.join_rules) most_rows) (λ few.
+    ask (each feed.join_rules (λ j. below j.from_network.0 (length feed.network_names))) (λ from_networks.
+    ask (each feed.join_rules (λ j. below j.to_network.0 (length feed.network_names))) (λ to_networks.
+    ask (each feed.join_rules (λ j. for_some j.from_stop (λ s. below s.0 (length feed.stops)))) (λ from_stops.
+    ask (each feed.join_rules (λ j. for_some j.to_stop (λ s. below s.0 (length feed.stops)))) (λ to_stops.
+    ask (each feed.join_rules (λ j. both (given (is_true (is_some j.from_stop)) (is_true (is_some j.to_stop)))
+    (given (is_true (is_some j.to_stop)) (is_true (is_some j.from_stop))))) (λ both_stops.
+    Some (record {
+      few = few;
+      from_networks = from_networks;
+      to_networks = to_networks;
+      from_stops = from_stops;
+      to_stops = to_stops;
+      both_stops = both_stops;
+    })))))))
+
 -- the currency
 abbrev currency_test : (feed : FeedRows) → Option (IsSoundCurrency feed)
 currency_test feed =
@@ -357,6 +376,7 @@ sound_feed feed =
     and_so (products_test feed) (λ products.
     and_so (leg_rules_test feed) (λ leg_rules.
     and_so (transfer_rules_test feed) (λ transfer_rules.
+    and_so (join_rules_test feed) (λ join_rules.
     and_so (name_list feed.service_names) (λ service_names.
     and_so (name_list feed.network_names) (λ network_names.
     and_so (name_list feed.frame_names) (λ frame_names.
@@ -381,13 +401,14 @@ sound_feed feed =
       products = products;
       leg_rules = leg_rules;
       transfer_rules = transfer_rules;
+      join_rules = join_rules;
       service_names = service_names;
       network_names = network_names;
       frame_names = frame_names;
       product_names = product_names;
       group_names = group_names;
       currency = currency;
-    }))))))))))))))))))))))))
+    })))))))))))))))))))))))))
 
 -- the rows pass
 abbrev pub is_sound_feed : FeedRows → Bool

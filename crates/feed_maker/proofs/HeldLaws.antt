@@ -6,6 +6,7 @@ use Rattle.feed_files.specs.declared.names.FileName.TheVariants as file
 use Rattle.feed_files.specs.HeldFiles.{most_bytes}
 use Rattle.folder_io.specs.declared.files.FileBytes.{FileBytes}
 use Rattle.folder_io.specs.declared.files.FileBytes.TheVariants as kept
+use Rattle.folder_io.specs.declared.files.TheConstants.{FILE_COUNT}
 use Rattle.folder_io.specs.KeptFiles.{held_in, AreWithin}
 use Rattle.feed_rows.specs.GeneratedFeed.{generated, calendar_file, areas_file, timeframes_file, fare_products_file, fare_leg_rules_file, fare_transfer_rules_file}
 use Rattle.feed_maker.specs.MadeFiles.{with_trips, with_fares, made_files}
@@ -32,13 +33,14 @@ held_at seed lines file.FareMedia = refl
 held_at seed lines file.FareProducts = refl
 held_at seed lines file.FareLegRules = refl
 held_at seed lines file.FareTransferRules = refl
+held_at seed lines file.FareLegJoinRules = refl
 
 held_made : (seed lines : ℕ) → held_in (made_files seed lines) ≡ generated seed lines
 held_made seed lines = fun_ext (held_at seed lines)
 
 -- the files that are put one after another are the generated ones
 pub held_put : (seed lines : ℕ) (none trips all : List FileBytes) →
-    none ≡ replicate 18 kept.Absent → trips ≡ with_trips seed lines none → all ≡ with_fares trips →
+    none ≡ replicate FILE_COUNT kept.Absent → trips ≡ with_trips seed lines none → all ≡ with_fares trips →
     held_in all ≡ generated seed lines
 unfolding made_files
 held_put seed lines none trips all begins puts ends = rw (ends, puts, begins) (held_made seed lines)
@@ -89,3 +91,4 @@ within_made seed lines few file.FareMedia = tt
 within_made seed lines few file.FareProducts = products_size
 within_made seed lines few file.FareLegRules = leg_rules_size
 within_made seed lines few file.FareTransferRules = transfer_rules_size
+within_made seed lines few file.FareLegJoinRules = tt

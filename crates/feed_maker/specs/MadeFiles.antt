@@ -5,6 +5,7 @@ use Rattle.feed_files.specs.declared.names.FileName.{FileName}
 use Rattle.feed_files.specs.declared.names.FileName.TheVariants as file
 use Rattle.folder_io.specs.declared.files.FileBytes.{FileBytes}
 use Rattle.folder_io.specs.declared.files.FileBytes.TheVariants as kept
+use Rattle.folder_io.specs.declared.files.TheConstants.{FILE_COUNT}
 use Rattle.feed_rows.specs.GeneratedFeed.{stops_file, routes_file, trips_file, stop_times_file, calendar_file, areas_file, stop_areas_file, timeframes_file, fare_products_file, fare_leg_rules_file, fare_transfer_rules_file}
 
 -- the files with the text of one more
@@ -32,4 +33,4 @@ with_fares files =
 
 -- the files of a generated feed
 unfoldable pub made_files : ℕ → ℕ → List FileBytes
-made_files seed lines = with_fares (with_trips seed lines (replicate 18 kept.Absent))
+made_files seed lines = with_fares (with_trips seed lines (replicate FILE_COUNT kept.Absent))

@@ -87,6 +87,8 @@ module _ (t : FeedTables) where
       (tt, (λ row has. tt), (tt, (λ row has. tt), (tt, (λ row has. tt), (tt, (λ row has. tt), (tt, (λ row has. tt), (tt, (λ row has. tt), tt))))))
   do_fit file.FareTransferRules kept =
       (tt, (λ row has. tt), (tt, (λ row has. tt), (tt, (λ row has. tt), (tt, (λ row has. tt), (tt, (λ row has. tt), tt)))))
+  do_fit file.FareLegJoinRules kept =
+      (tt, (λ row has. tt), (tt, (λ row has. tt), (tt, (λ row has. tt), (tt, (λ row has. tt), (tt, (λ row has. tt), tt)))))
 
   pub fits : (name : FileName) (k : ℕ) (d : RowRule) → has_table name ≡ true → k < length (checks_of name) → Fits name (get_or (checks_of name) k d).check
   fits name k d kept lt = fit_at t name 0 (checks_of name) k d (do_fit name kept) lt

@@ -76,7 +76,7 @@ pub fn is_one_filled(a: &[u8], b: &[u8]) -> bool
 }
 
 // Whether a check of a row fails, where it is judged row by row.
-#[tactic(auto, unfolding(feed_faults::specs::ServiceRelations::are_dates_reversed, feed_faults::specs::FieldValues::day_or_zero, feed_faults::specs::FareRelations::is_currency_mixed, feed_faults::specs::FareRelations::is_limit_half))]
+#[tactic(auto, unfolding(feed_faults::specs::ServiceRelations::are_dates_reversed, feed_faults::specs::FieldValues::day_or_zero, feed_faults::specs::FareRelations::is_currency_mixed, feed_faults::specs::FareRelations::is_limit_half, feed_faults::specs::FareRelations::is_one_stop_named))]
 pub fn row_fails<C: CallTable>(
     feed: &JudgedFeed<C>,
     file: FileName,
@@ -113,6 +113,10 @@ pub fn row_fails<C: CallTable>(
         RowCheck::WholeLimit => is_one_filled(
             table.field(row, ColumnName::DurationLimit),
             table.field(row, ColumnName::DurationLimitType),
+        ),
+        RowCheck::BothStops => is_one_filled(
+            table.field(row, ColumnName::FromStopId),
+            table.field(row, ColumnName::ToStopId),
         ),
         _ => unreachable!(),
     }

@@ -22,6 +22,7 @@ rows_inside fields =
       products = fields.products;
       leg_rules = fields.leg_rules;
       transfer_rules = fields.transfer_rules;
+      join_rules = fields.join_rules;
       service_names = fields.service_names;
       network_names = fields.network_names;
       frame_names = fields.frame_names;

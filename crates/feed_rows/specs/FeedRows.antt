@@ -16,6 +16,7 @@ use Rattle.feed_rows.specs.declared.rows.MediumRow.{MediumRow}
 use Rattle.feed_rows.specs.declared.rows.ProductRow.{ProductRow}
 use Rattle.feed_rows.specs.declared.rows.LegRuleRow.{LegRuleRow}
 use Rattle.feed_rows.specs.declared.rows.TransferRuleRow.{TransferRuleRow}
+use Rattle.feed_rows.specs.declared.rows.JoinRow.{JoinRow}
 
 -- the lists of a feed
 pub record FeedRows : Type 0 where
@@ -38,9 +39,10 @@ pub record FeedRows : Type 0 where
   pub riders : List RiderRow
   pub media : List MediumRow
   pub products : List ProductRow
-  -- fare_leg_rules.txt, fare_transfer_rules.txt
+  -- fare_leg_rules.txt, fare_transfer_rules.txt, fare_leg_join_rules.txt
   pub leg_rules : List LegRuleRow
   pub transfer_rules : List TransferRuleRow
+  pub join_rules : List JoinRow
   -- the names of services, networks, timeframe groups, products and leg groups, by first appearance
   pub service_names : List (List ℕ)
   pub network_names : List (List ℕ)

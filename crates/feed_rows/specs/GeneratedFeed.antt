@@ -189,3 +189,4 @@ generated seed lines file.FareMedia = HeldFile.Missing
 generated seed lines file.FareProducts = HeldFile.Bytes fare_products_file
 generated seed lines file.FareLegRules = HeldFile.Bytes fare_leg_rules_file
 generated seed lines file.FareTransferRules = HeldFile.Bytes fare_transfer_rules_file
+generated seed lines file.FareLegJoinRules = HeldFile.Missing

@@ -78,6 +78,16 @@ pub record AreSoundTransferRules (feed : FeedRows) : Type 0 where
   pub limits : All (λ r. ForSome r.limit (λ l. (1 ≤ l.seconds) × (l.seconds ≤ 2_147_483_647))) feed.transfer_rules
   pub limit_kinds : All (λ r. ForSome r.limit (λ l. l.kind ≤ 3)) feed.transfer_rules
 
+-- fare_leg_join_rules.txt
+pub record AreSoundJoinRules (feed : FeedRows) : Type 0 where
+  pub few : length feed.join_rules ≤ most_rows
+  pub from_networks : All (λ j. j.from_network.0 < length feed.network_names) feed.join_rules
+  pub to_networks : All (λ j. j.to_network.0 < length feed.network_names) feed.join_rules
+  pub from_stops : All (λ j. ForSome j.from_stop (λ s. s.0 < length feed.stops)) feed.join_rules
+  pub to_stops : All (λ j. ForSome j.to_stop (λ s. s.0 < length feed.stops)) feed.join_rules
+  -- a row names both stops or neither
+  pub both_stops : All (λ j. IsSome j.from_stop ↔ IsSome j.to_stop) feed.join_rules
+
 -- the currency of fare_products.txt
 pub record IsSoundCurrency (feed : FeedRows) : Type 0 where
   -- a feed has a currency exactly where it has a product

@@ -2,7 +2,7 @@
 use Rattle.feed_rows.specs.FeedRows.{FeedRows}
 use Rattle.feed_rows.specs.SoundNames.{IsNameList}
 use Rattle.feed_rows.specs.SoundTimetable.{AreSoundStops, AreSoundRoutes, AreSoundTrips, AreSoundStopTimes, AreOrderedCalls, AreSoundServices, AreSoundExceptions, AreSoundFrequencies, AreSoundLinks}
-use Rattle.feed_rows.specs.SoundFares.{AreSoundAreas, AreSoundStopAreas, AreSoundTimeframes, AreSoundRiders, AreSoundMedia, AreSoundProducts, AreSoundLegRules, AreSoundTransferRules, IsSoundCurrency}
+use Rattle.feed_rows.specs.SoundFares.{AreSoundAreas, AreSoundStopAreas, AreSoundTimeframes, AreSoundRiders, AreSoundMedia, AreSoundProducts, AreSoundLegRules, AreSoundTransferRules, AreSoundJoinRules, IsSoundCurrency}
 
 -- what rows show of having no fault: numbers name rows, keys stand once, values are within their limits, times don't fall
 pub record IsSoundFeed (feed : FeedRows) : Type 0 where
@@ -23,6 +23,7 @@ pub record IsSoundFeed (feed : FeedRows) : Type 0 where
   pub products : AreSoundProducts feed
   pub leg_rules : AreSoundLegRules feed
   pub transfer_rules : AreSoundTransferRules feed
+  pub join_rules : AreSoundJoinRules feed
   pub service_names : IsNameList feed.service_names
   pub network_names : IsNameList feed.network_names
   pub frame_names : IsNameList feed.frame_names

@@ -1,9 +1,9 @@
 //! A feed: the rows of its files, with what holds of them.
 use crate::ids::Id;
 use crate::rows::{
-    AreaRow, ExceptionRow, FrequencyRow, LegRuleRow, LinkRow, MediumRow, ProductRow, RiderRow,
-    RouteRow, ServiceRow, StopAreaRow, StopRow, StopTimeRow, TimeframeRow, TransferRuleRow,
-    TripRow,
+    AreaRow, ExceptionRow, FrequencyRow, JoinRow, LegRuleRow, LinkRow, MediumRow, ProductRow,
+    RiderRow, RouteRow, ServiceRow, StopAreaRow, StopRow, StopTimeRow, TimeframeRow,
+    TransferRuleRow, TripRow,
 };
 use plain_laws::ItemList;
 use std::marker::Model;
@@ -56,6 +56,9 @@ pub type LegRuleRows = ItemList<LegRuleRow>;
 /// The rows of `fare_transfer_rules.txt`.
 pub type TransferRuleRows = ItemList<TransferRuleRow>;
 
+/// The rows of `fare_leg_join_rules.txt`.
+pub type JoinRows = ItemList<JoinRow>;
+
 /// Names without rows of their own, by first appearance.
 pub type NameList = ItemList<Id>;
 
@@ -78,6 +81,7 @@ pub struct Feed {
     pub products: ProductRows,
     pub leg_rules: LegRuleRows,
     pub transfer_rules: TransferRuleRows,
+    pub join_rules: JoinRows,
     /// The names of services.
     pub service_names: NameList,
     /// The names of fare networks.
@@ -116,6 +120,7 @@ impl Drop for Feed {
             products: _,
             leg_rules: _,
             transfer_rules: _,
+            join_rules: _,
             service_names: _,
             network_names: _,
             frame_names: _,

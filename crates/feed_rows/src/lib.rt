@@ -14,8 +14,8 @@ pub use fares::{
     TransferFacts, Triple, XferList,
 };
 pub use feed::{
-    AreaRows, ExceptionRows, Feed, FrequencyRows, LegRuleRows, LinkRows, MediumRows, NameList,
-    ProductRows, RiderRows, RouteRows, ServiceRows, StopAreaRows, StopRows, StopTimeRows,
+    AreaRows, ExceptionRows, Feed, FrequencyRows, JoinRows, LegRuleRows, LinkRows, MediumRows,
+    NameList, ProductRows, RiderRows, RouteRows, ServiceRows, StopAreaRows, StopRows, StopTimeRows,
     TimeframeRows, TransferRuleRows, TripRows,
 };
 pub use ids::Id;
@@ -24,9 +24,9 @@ pub use journeys::{
     MOST_SHIFT, NO_CATEGORY, Pair, Query, Ride, RideFacts, RideList, Shifts, USUAL_WINDOW,
 };
 pub use rows::{
-    AreaRow, CHANGE_ALONE, ExceptionRow, FrequencyRow, LEG_BEFORE_AND_CHANGE, LegRuleRow, Limit,
-    LinkRow, MediumRow, PLATFORM, ProductRow, RiderRow, RouteRow, STATION, ServiceRow, StopAreaRow,
-    StopRow, StopTimeRow, TimeframeRow, TransferRuleRow, TripRow, includes_leg_after,
+    AreaRow, CHANGE_ALONE, ExceptionRow, FrequencyRow, JoinRow, LEG_BEFORE_AND_CHANGE, LegRuleRow,
+    Limit, LinkRow, MediumRow, PLATFORM, ProductRow, RiderRow, RouteRow, STATION, ServiceRow,
+    StopAreaRow, StopRow, StopTimeRow, TimeframeRow, TransferRuleRow, TripRow, includes_leg_after,
 };
 pub use states::{FareState, Move, Moves, same_group};
 pub use times::CallTime;

@@ -196,3 +196,14 @@ pub struct TransferRuleRow {
     /// The product to pay for the change; without one it costs nothing.
     pub product: Option<ProductId>,
 }
+
+/// A row of `fare_leg_join_rules.txt`.
+#[derive(Clone, Copy)]
+pub struct JoinRow {
+    pub from_network: NetworkId,
+    pub to_network: NetworkId,
+    /// Where the ride before alights, if the row names its stops; it names both or neither.
+    pub from_stop: Option<StopId>,
+    /// Where the ride after boards, if the row names its stops.
+    pub to_stop: Option<StopId>,
+}

@@ -13,7 +13,7 @@ use Rattle.feed_files.specs.declared.names.ColumnName.{ColumnName}
 use Rattle.feed_files.specs.declared.names.ColumnName.TheVariants as column
 use Rattle.plain_laws.specs.Plain.{when}
 use Rattle.feed_rows.specs.SoundNames.{IsIdText}
-use Rattle.feed_rows.specs.SoundFares.{AreSoundAreas, AreSoundStopAreas, AreSoundTimeframes, AreSoundRiders, AreSoundMedia, AreSoundProducts, AreSoundLegRules, AreSoundTransferRules, IsSoundCurrency}
+use Rattle.feed_rows.specs.SoundFares.{AreSoundAreas, AreSoundStopAreas, AreSoundTimeframes, AreSoundRiders, AreSoundMedia, AreSoundProducts, AreSoundLegRules, AreSoundTransferRules, AreSoundJoinRules, IsSoundCurrency}
 use Rattle.feed_faults.specs.declared.checks.IdColumn.TheVariants as ids
 use Rattle.feed_faults.specs.Records.{FileTable, row_count, column_of, field, is_filled}
 use Rattle.feed_faults.specs.FieldGrammars.{most_int}
@@ -21,8 +21,8 @@ use Rattle.feed_soundness.proofs.RuleShapes.{int, amount, currency}
 use Rattle.feed_faults.specs.FeedTables.{FeedTables, table_in}
 use Rattle.feed_faults.specs.FieldValues.{int_or_zero, frame_start, frame_end}
 use Rattle.feed_faults.specs.RowKeys.{is_repeated}
-use Rattle.feed_faults.specs.FareRelations.{is_one_filled, do_frames_overlap, is_bad_frame, same_product, is_count_misplaced, is_limit_half}
-use Rattle.feed_faults.specs.AcceptedFeed.{if_filled, row_number, name_number, service_names, network_names, frame_names, product_names, group_names, area_row, stop_area_row, timeframe_row, rider_row, medium_row, product_row, leg_rule_row, limit_of, transfer_rule_row, feed_currency, feed_decimals, rows_of_tables}
+use Rattle.feed_faults.specs.FareRelations.{is_one_filled, do_frames_overlap, is_bad_frame, same_product, is_count_misplaced, is_limit_half, is_one_stop_named}
+use Rattle.feed_faults.specs.AcceptedFeed.{if_filled, row_number, name_number, service_names, network_names, frame_names, product_names, group_names, area_row, stop_area_row, timeframe_row, rider_row, medium_row, product_row, leg_rule_row, limit_of, transfer_rule_row, join_row, feed_currency, feed_decimals, rows_of_tables}
 use Rattle.feed_soundness.specs.AcceptedTables.{AreFormed, AreRelated}
 use Rattle.plain_laws.proofs.Laws.{length-list_below, All-list_below, AllPairs-list_below, bytes_eq-true, eq-bytes_eq}
 use Rattle.feed_soundness.proofs.FieldLaws.{must_at, may_at, few_rows}
@@ -31,7 +31,7 @@ use Rattle.feed_soundness.proofs.KeyLaws.{MayBeKnown, same_number, apart, never_
 use Rattle.feed_soundness.proofs.NameLaws.{same_name}
 use Rattle.feed_soundness.proofs.IdColumns.{must_id, new_ids, new_keys}
 use Rattle.feed_soundness.proofs.NameGroups as names
-use Rattle.feed_soundness.proofs.References.{area_known, area_stop_known, product_rider_known, product_medium_known, leg_rule_network_named, leg_rule_from_area_known, leg_rule_to_area_known, leg_rule_from_frame_named, leg_rule_to_frame_named, leg_rule_product_named, rule_from_group_named, rule_to_group_named, rule_product_named}
+use Rattle.feed_soundness.proofs.References.{area_known, area_stop_known, product_rider_known, product_medium_known, leg_rule_network_named, leg_rule_from_area_known, leg_rule_to_area_known, leg_rule_from_frame_named, leg_rule_to_frame_named, leg_rule_product_named, rule_from_group_named, rule_to_group_named, rule_product_named, join_from_network_named, join_to_network_named, join_from_stop_known, join_to_stop_known}
 
 -- a filled field has a value of which P holds
 filled_all : {X : Type 0} (text : List ℕ) (x : X) (P : X → Type 0) → (is_filled text ≡ true → P x) → ForSome (if_filled text x) P
@@ -356,4 +356,33 @@ transfer_rules_sound t formed related =
           (λ i lt l e. let told = limit_told t formed related i lt l e in (told.0, told.1));
       limit_kinds = All-list_below (λ r. ForSome r.limit (λ l. l.kind ≤ 3)) rows row
           (λ i lt l e. (limit_told t formed related i lt l e).2);
+    }
+
+-- of two fields of which not one alone is filled, both have a value or neither
+both_told : {X : Type 0} (a b : Bool) (x y : X) → (a && not b) || (b && not a) ≡ false → IsSome (when a x) ↔ IsSome (when b y)
+both_told true true x y e = (λ some. refl, λ some. refl)
+both_told true false x y e = absurd (cc)
+both_told false true x y e = absurd (cc)
+both_told false false x y e = (λ some. some, λ some. some)
+
+-- fare_leg_join_rules.txt
+pub join_rules_sound : (t : FeedTables) → AreFormed t → AreRelated t → AreSoundJoinRules (rows_of_tables t)
+unfolding rows_of_tables join_row is_one_stop_named
+join_rules_sound t formed related =
+    let rows = row_count (table_in t file.FareLegJoinRules) in
+    let row = join_row t in
+    record {
+      few = few_rows row (formed file.FareLegJoinRules);
+      from_networks = All-list_below (λ j. j.from_network.0 < length (network_names t)) rows row
+          (λ i lt. (join_from_network_named t formed related i lt).within);
+      to_networks = All-list_below (λ j. j.to_network.0 < length (network_names t)) rows row
+          (λ i lt. (join_to_network_named t formed related i lt).within);
+      from_stops = All-list_below (λ j. ForSome j.from_stop (λ s. s.0 < length (rows_of_tables t).stops)) rows row
+          (λ i lt. filled_all _ _ (λ s. s.0 < length (rows_of_tables t).stops)
+          (λ filled. rw length-list_below (join_from_stop_known t related i lt filled).within));
+      to_stops = All-list_below (λ j. ForSome j.to_stop (λ s. s.0 < length (rows_of_tables t).stops)) rows row
+          (λ i lt. filled_all _ _ (λ s. s.0 < length (rows_of_tables t).stops)
+          (λ filled. rw length-list_below (join_to_stop_known t related i lt filled).within));
+      both_stops = All-list_below (λ j. IsSome j.from_stop ↔ IsSome j.to_stop) rows row
+          (λ i lt. both_told _ _ _ _ (related file.FareLegJoinRules i 4 _ lt refl));
     }

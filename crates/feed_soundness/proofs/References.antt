@@ -1,11 +1,11 @@
 -- What the rows of accepted tables name is there: each reference is known, and each name stands among the names.
-use Rattle.std.proofs.Common.{◌≡◌, refl, ℕ, ◌<◌, ◌⊎◌, inl, inr, Bool, true, false, []}
-use Rattle.std.specs.Prelude.{Option, Some, None}
+use Rattle.std.proofs.Common.{◌≡◌, refl, ℕ, ◌<◌, ◌⊎◌, inl, inr, Bool, true, false, List, []}
+use Rattle.std.specs.Prelude.{◌&&◌, Option, Some, None}
 use Rattle.std.proofs.lemmas.Bool.{and_cases}
 use Rattle.feed_files.specs.declared.names.FileName.{FileName}
 use Rattle.feed_files.specs.declared.names.FileName.TheVariants as file
 use Rattle.feed_files.specs.declared.names.ColumnName.{ColumnName}
-use Rattle.feed_files.specs.declared.names.ColumnName.TheVariants.{AreaId, FareMediaId, FareProductId, FromAreaId, FromLegGroupId, FromStopId, FromTimeframeGroupId, NetworkId, RiderCategoryId, RouteId, StopId, ToAreaId, ToLegGroupId, ToStopId, ToTimeframeGroupId, TripId}
+use Rattle.feed_files.specs.declared.names.ColumnName.TheVariants.{AreaId, FareMediaId, FareProductId, FromAreaId, FromLegGroupId, FromNetworkId, FromStopId, FromTimeframeGroupId, NetworkId, RiderCategoryId, RouteId, StopId, ToAreaId, ToLegGroupId, ToNetworkId, ToStopId, ToTimeframeGroupId, TripId}
 use Rattle.feed_faults.specs.Records.{row_count, field, is_filled}
 use Rattle.feed_faults.specs.FormFaults.{is_passed_over}
 use Rattle.feed_faults.specs.FeedTables.{FeedTables, table_in}
@@ -15,7 +15,7 @@ use Rattle.feed_soundness.specs.AcceptedTables.{AreFormed, AreRelated}
 use Rattle.feed_soundness.proofs.KeyLaws.{IsKnown, MayBeKnown, known, row_within}
 use Rattle.feed_soundness.proofs.NameLaws.{IsNamed, MayBeNamed}
 use Rattle.feed_soundness.proofs.IdColumns.{must_id, trip_of_call, stop_of_call}
-use Rattle.feed_soundness.proofs.NameGroups.{AreNamedIfFilled, kept, named_in, own_network_named}
+use Rattle.feed_soundness.proofs.NameGroups.{AreNamed, AreNamedIfFilled, kept, named_in, own_network_named}
 
 -- the fields of a column are ids of rows of another file, each of them or where it is filled
 abbrev pub AreKnown : FeedTables → FileName → ColumnName → FileName → ColumnName → Type 0
@@ -76,18 +76,40 @@ module _ (t : FeedTables) (related : AreRelated t) where
   pub leg_rule_to_area_known : AreKnownIfFilled t file.FareLegRules ToAreaId file.Areas AreaId
   leg_rule_to_area_known row lt filled = known _ _ _ filled (related file.FareLegRules row 2 _ lt refl)
 
+  pub join_from_stop_known : AreKnownIfFilled t file.FareLegJoinRules FromStopId file.Stops StopId
+  join_from_stop_known row lt filled = known _ _ _ filled (related file.FareLegJoinRules row 2 _ lt refl)
+
+  pub join_to_stop_known : AreKnownIfFilled t file.FareLegJoinRules ToStopId file.Stops StopId
+  join_to_stop_known row lt filled = known _ _ _ filled (related file.FareLegJoinRules row 3 _ lt refl)
+
+-- a network that routes.txt or networks.txt has is one of the names
+network_named : (t : FeedTables) (id : List ℕ) → is_filled id ≡ true
+    → (is_unknown (table_in t file.Routes) NetworkId id && is_unknown (table_in t file.Networks) NetworkId id) ≡ false
+    → IsNamed (network_names t) id
+unfolding network_names
+network_named t id filled there = step (and_cases _ _ there)
+  where
+    step : (is_unknown (table_in t file.Routes) NetworkId id ≡ false) ⊎ (is_unknown (table_in t file.Networks) NetworkId id ≡ false)
+        → IsNamed (network_names t) id
+    step (inl one) = kept (table_in t file.Networks) NetworkId (named_in [] _ _ _ filled one)
+    step (inr other) = named_in _ _ _ _ filled other
+
+-- the networks that rules by which legs join name
+module _ (t : FeedTables) (formed : AreFormed t) (related : AreRelated t) where
+  pub join_from_network_named : AreNamed t file.FareLegJoinRules FromNetworkId (network_names t)
+  join_from_network_named row lt =
+      network_named t _ (must_id t formed file.FareLegJoinRules row 0 FromNetworkId lt refl).2
+      (related file.FareLegJoinRules row 0 _ lt refl)
+
+  pub join_to_network_named : AreNamed t file.FareLegJoinRules ToNetworkId (network_names t)
+  join_to_network_named row lt =
+      network_named t _ (must_id t formed file.FareLegJoinRules row 1 ToNetworkId lt refl).2
+      (related file.FareLegJoinRules row 1 _ lt refl)
+
 -- what the fare rules name, where the field is filled
 module _ (t : FeedTables) (related : AreRelated t) where
   pub leg_rule_network_named : AreNamedIfFilled t file.FareLegRules NetworkId (network_names t)
-  unfolding network_names
-  leg_rule_network_named row lt filled =
-      step (and_cases _ _ (related file.FareLegRules row 0 _ lt refl))
-    where
-      step : (is_unknown (table_in t file.Routes) NetworkId (field (table_in t file.FareLegRules) row NetworkId) ≡ false)
-          ⊎ (is_unknown (table_in t file.Networks) NetworkId (field (table_in t file.FareLegRules) row NetworkId) ≡ false)
-          → IsNamed (network_names t) (field (table_in t file.FareLegRules) row NetworkId)
-      step (inl one) = kept (table_in t file.Networks) NetworkId (named_in [] _ _ _ filled one)
-      step (inr other) = named_in _ _ _ _ filled other
+  leg_rule_network_named row lt filled = network_named t _ filled (related file.FareLegRules row 0 _ lt refl)
 
   pub leg_rule_from_frame_named : AreNamedIfFilled t file.FareLegRules FromTimeframeGroupId (frame_names t)
   unfolding frame_names

@@ -16,7 +16,7 @@ use Rattle.feed_soundness.proofs.RelatedFiles.{related}
 use Rattle.feed_soundness.proofs.NameGroups as names
 use Rattle.feed_soundness.proofs.TimetableGroups.{stops_sound, routes_sound, trips_sound, stop_times_sound, services_sound, exceptions_sound, frequencies_sound, links_sound}
 use Rattle.feed_soundness.proofs.OrderedCalls.{calls_sound}
-use Rattle.feed_soundness.proofs.FareGroups.{areas_sound, stop_areas_sound, timeframes_sound, riders_sound, media_sound, products_sound, leg_rules_sound, transfer_rules_sound, currency_sound}
+use Rattle.feed_soundness.proofs.FareGroups.{areas_sound, stop_areas_sound, timeframes_sound, riders_sound, media_sound, products_sound, leg_rules_sound, transfer_rules_sound, join_rules_sound, currency_sound}
 
 -- the tables of accepted files give sound rows
 pub sound_of_tables : (t : FeedTables) → AreFormed t → AreRelated t → IsSoundFeed (rows_of_tables t)
@@ -39,6 +39,7 @@ sound_of_tables t formed related =
       products = products_sound t formed related;
       leg_rules = leg_rules_sound t formed related;
       transfer_rules = transfer_rules_sound t formed related;
+      join_rules = join_rules_sound t formed related;
       service_names = names.services_listed t formed;
       network_names = names.networks_listed t formed;
       frame_names = names.frames_listed t formed;

@@ -58,7 +58,7 @@ first_within first are name lt = rw (three_first first are) lt
 
 pub others_within : (others : List TableOf) → map (λ (read : TableOf). read.file) others ≡ other_files → (name : FileName) → 4 ≤ place name → place name - 4 < length others
 others_within others are name le =
-    let long : length others ≡ 14 = sym (length-map others (λ (r : TableOf). r.file)) ∙ ap length are in
+    let long : length others ≡ length other_files = sym (length-map others (λ (r : TableOf). r.file)) ∙ ap length are in
     omega (arith, long, le, inside name)
 
 -- each file's table stands at its place

@@ -59,4 +59,4 @@ abbrev pub other_files : List FileName
 other_files =
     file.Calendar ∷ file.CalendarDates ∷ file.Frequencies ∷ file.Transfers ∷ file.Areas ∷ file.StopAreas ∷ file.Networks
     ∷ file.RouteNetworks ∷ file.Timeframes ∷ file.RiderCategories ∷ file.FareMedia ∷ file.FareProducts ∷ file.FareLegRules
-    ∷ file.FareTransferRules ∷ []
+    ∷ file.FareTransferRules ∷ file.FareLegJoinRules ∷ []

@@ -18,7 +18,7 @@ use std::io::Read;
 use std::marker::Model;
 
 // How many names of columns there are.
-const COLUMNS: usize = 58;
+const COLUMNS: usize = 60;
 
 /// The fields of a row, by the names of their columns.
 pub trait Fields {

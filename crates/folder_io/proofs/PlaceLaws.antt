@@ -3,6 +3,7 @@ use Rattle.std.proofs.Common.{◌≡◌, refl, ◌<◌, get_or, arith}
 use Rattle.feed_files.specs.Names.{all_files, place}
 use Rattle.feed_files.specs.declared.names.FileName.{FileName}
 use Rattle.feed_files.specs.declared.names.FileName.TheVariants as file
+use Rattle.folder_io.specs.declared.files.TheConstants.{FILE_COUNT}
 
 -- each file stands in its place
 pub named : (name d : FileName) → get_or all_files (place name) d ≡ name
@@ -24,8 +25,9 @@ named file.FareMedia d = refl
 named file.FareProducts d = refl
 named file.FareLegRules d = refl
 named file.FareTransferRules d = refl
+named file.FareLegJoinRules d = refl
 
-pub inside : (name : FileName) → place name < 18
+pub inside : (name : FileName) → place name < FILE_COUNT
 inside file.Stops = omega arith
 inside file.Routes = omega arith
 inside file.Trips = omega arith
@@ -44,3 +46,4 @@ inside file.FareMedia = omega arith
 inside file.FareProducts = omega arith
 inside file.FareLegRules = omega arith
 inside file.FareTransferRules = omega arith
+inside file.FareLegJoinRules = omega arith

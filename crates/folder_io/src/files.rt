@@ -7,7 +7,7 @@ use std::alloc::{AllocError, Global};
 use std::marker::Model;
 
 /// How many files a feed has.
-pub const FILE_COUNT: usize = 18;
+pub const FILE_COUNT: usize = 19;
 
 /// The place of stop_times.txt among them, in the order of [`FileName::all`].
 pub const STOP_TIMES_PLACE: usize = 3;
@@ -99,6 +99,7 @@ impl Files {
     {
         Files {
             files: [
+                FileBytes::Absent,
                 FileBytes::Absent,
                 FileBytes::Absent,
                 FileBytes::Absent,

@@ -20,6 +20,7 @@ use Rattle.feed_files.specs.declared.faults.FeedFault.{FeedFault}
 use Rattle.feed_files.specs.declared.names.FileName.{FileName}
 use Rattle.commands.specs.Commands.{read_command}
 use Rattle.commands.proofs.GeneratedLaws.{exact_triples}
+use Rattle.folder_io.specs.declared.files.TheConstants.{FILE_COUNT}
 use Rattle.folder_io.specs.FolderCalls.{Contents, FolderState}
 use Rattle.folder_io.proofs.LogLaws.{makes_none}
 use Rattle.feed_check.specs.LoadErrors.{StopsReading}
@@ -40,7 +41,7 @@ some_files (Some contents) = (held contents, refl)
 
 -- where all was read that was asked for, memory may be wanting later
 pub read_stops : (asks : Bool) (folder later : FolderState) → ReadsIf asks folder later → StopsReading folder later
-read_stops true folder later all = record { counts = all.counts; opens = (18, all.opens) }
+read_stops true folder later all = record { counts = all.counts; opens = (FILE_COUNT, all.opens) }
 read_stops false folder later same =
     subst (StopsReading folder) (sym same) (record { counts = refl; opens = (0, makes_none folder.opens) })
 

@@ -21,8 +21,9 @@ returns g c =
     c.in_ok-product_files.ensures.first
     c.in_ok-product_files.ensures.second
     c.in_ok-product_files.ensures.third
-    c.in_ok-leg_rules.ensures
-    c.in_ok-transfer_rules.ensures
+    c.in_ok-rule_files.ensures.first
+    c.in_ok-rule_files.ensures.second
+    c.in_ok-rule_files.ensures.third
     (ap (λ ids. ids.0) c.in_ok-names.ensures ∙ c.self.invariant.names_are.services ∙ ap service_names c.self.view_is)
     (ap (λ ids. ids.1) c.in_ok-names.ensures ∙ c.self.invariant.names_are.networks ∙ ap network_names c.self.view_is)
     (ap (λ ids. ids.2) c.in_ok-names.ensures ∙ c.self.invariant.names_are.frames ∙ ap frame_names c.self.view_is)
