@@ -73,7 +73,7 @@ rows =
             priority = 0;
           } ∷ [];
       transfer_rules = [];
-      join_rules = [];
+      joins = [];
       service_names = codes "W" ∷ [];
       network_names = codes "bus" ∷ [];
       frame_names = [];

@@ -30,7 +30,7 @@ pub rows_are : (t : FeedTables) (rows : FeedRows)
     → rows.products ≡ (rows_of_tables t).products
     → rows.leg_rules ≡ (rows_of_tables t).leg_rules
     → rows.transfer_rules ≡ (rows_of_tables t).transfer_rules
-    → rows.join_rules ≡ (rows_of_tables t).join_rules
+    → rows.joins ≡ (rows_of_tables t).joins
     → rows.service_names ≡ (rows_of_tables t).service_names
     → rows.network_names ≡ (rows_of_tables t).network_names
     → rows.frame_names ≡ (rows_of_tables t).frame_names
@@ -58,7 +58,7 @@ rows_are t rows e1 e2 e3 e4 e5 e6 e7 e8 e9 e10 e11 e12 e13 e14 e15 e16 e17 e18 e
       products = e14 i;
       leg_rules = e15 i;
       transfer_rules = e16 i;
-      join_rules = e17 i;
+      joins = e17 i;
       service_names = e18 i;
       network_names = e19 i;
       frame_names = e20 i;

@@ -113,7 +113,7 @@ impl<'t, C: CallTable> TableSource<'t, C> {
         let (services, exceptions, frequencies) = day_files;
         let (areas, stop_areas, timeframes) = area_files;
         let (riders, media, products) = product_files;
-        let (leg_rules, transfer_rules, join_rules) = rule_files;
+        let (leg_rules, transfer_rules, joins) = rule_files;
         let (service_names, network_names, frame_names, product_names, group_names) = names;
         let leg_rule_table = self.tables.get(FileName::FareLegRules);
         let (currency, decimals) = self.currency();
@@ -134,7 +134,7 @@ impl<'t, C: CallTable> TableSource<'t, C> {
             products,
             leg_rules,
             transfer_rules,
-            join_rules,
+            joins,
             service_names,
             network_names,
             frame_names,

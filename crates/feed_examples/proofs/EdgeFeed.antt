@@ -86,7 +86,7 @@ edge_feed =
           ∷ record (transfer_rule 0 0 0 None) { count = Some 1; limit = Some (record { seconds = 1; kind = 0 }) }
           ∷ record (transfer_rule 0 1 1 None) { to = None; limit = Some (record { seconds = 2147483647; kind = 3 }) }
           ∷ transfer_rule 0 1 2 (Some (record { 0 = 1 })) ∷ transfer_rule 0 1 2 (Some (record { 0 = 1 })) ∷ [];
-      join_rules =
+      joins =
           join_rule 1 1 (Some (record { 0 = 6 })) (Some (record { 0 = 6 })) ∷ join_rule 0 1 None None
           ∷ join_rule 1 1 (Some (record { 0 = 6 })) (Some (record { 0 = 6 })) ∷ [];
       service_names = codes "W" ∷ codes "M" ∷ [];

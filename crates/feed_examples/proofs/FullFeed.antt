@@ -45,7 +45,7 @@ full_feed =
           transfer_rule 0 1 2 None
           ∷ record { from = Some (record { 0 = 0 }); to = Some (record { 0 = 0 }); count = Some 2; limit = Some (record { seconds = 3600; kind = 3 }); kind = 1; product = Some (record { 0 = 1 }) }
           ∷ [];
-      join_rules = join_rule 0 1 None None ∷ join_rule 1 1 (Some (record { 0 = 1 })) (Some (record { 0 = 3 })) ∷ [];
+      joins = join_rule 0 1 None None ∷ join_rule 1 1 (Some (record { 0 = 1 })) (Some (record { 0 = 3 })) ∷ [];
       frame_names = codes "early" ∷ codes "all day" ∷ [];
       has_priority = true;
     }

@@ -217,27 +217,27 @@ fifth_limit_kind : IsFaulty (record base { transfer_rules = record (transfer_rul
 fifth_limit_kind sound = let no = sound.transfer_rules.limit_kinds 0 (transfer_rule 0 0 0 None) (omega arith) (record { seconds = 1; kind = 4 }) refl in absurd (omega (arith, no))
 
 -- rules by which legs join: networks without a name, stops without a row, and one stop without the other
-join_from_no_network : IsFaulty (record base { join_rules = join_rule 2 0 None None ∷ [] })
-join_from_no_network sound = let no = sound.join_rules.from_networks 0 (join_rule 0 0 None None) (omega arith) in absurd (omega (arith, no))
+join_from_no_network : IsFaulty (record base { joins = join_rule 2 0 None None ∷ [] })
+join_from_no_network sound = let no = sound.joins.from_networks 0 (join_rule 0 0 None None) (omega arith) in absurd (omega (arith, no))
 
-join_to_no_network : IsFaulty (record base { join_rules = join_rule 0 2 None None ∷ [] })
-join_to_no_network sound = let no = sound.join_rules.to_networks 0 (join_rule 0 0 None None) (omega arith) in absurd (omega (arith, no))
+join_to_no_network : IsFaulty (record base { joins = join_rule 0 2 None None ∷ [] })
+join_to_no_network sound = let no = sound.joins.to_networks 0 (join_rule 0 0 None None) (omega arith) in absurd (omega (arith, no))
 
-join_from_no_stop : IsFaulty (record base { join_rules = join_rule 0 1 (Some (record { 0 = 3 })) (Some (record { 0 = 0 })) ∷ [] })
+join_from_no_stop : IsFaulty (record base { joins = join_rule 0 1 (Some (record { 0 = 3 })) (Some (record { 0 = 0 })) ∷ [] })
 join_from_no_stop sound =
-    let no = sound.join_rules.from_stops 0 (join_rule 0 0 None None) (omega arith) (record { 0 = 3 }) refl in absurd (omega (arith, no))
+    let no = sound.joins.from_stops 0 (join_rule 0 0 None None) (omega arith) (record { 0 = 3 }) refl in absurd (omega (arith, no))
 
-join_to_no_stop : IsFaulty (record base { join_rules = join_rule 0 1 (Some (record { 0 = 0 })) (Some (record { 0 = 3 })) ∷ [] })
+join_to_no_stop : IsFaulty (record base { joins = join_rule 0 1 (Some (record { 0 = 0 })) (Some (record { 0 = 3 })) ∷ [] })
 join_to_no_stop sound =
-    let no = sound.join_rules.to_stops 0 (join_rule 0 0 None None) (omega arith) (record { 0 = 3 }) refl in absurd (omega (arith, no))
+    let no = sound.joins.to_stops 0 (join_rule 0 0 None None) (omega arith) (record { 0 = 3 }) refl in absurd (omega (arith, no))
 
-join_from_one_stop : IsFaulty (record base { join_rules = join_rule 0 1 (Some (record { 0 = 0 })) None ∷ [] })
+join_from_one_stop : IsFaulty (record base { joins = join_rule 0 1 (Some (record { 0 = 0 })) None ∷ [] })
 join_from_one_stop sound =
-    absurd (let no : false ≡ true = (sound.join_rules.both_stops 0 (join_rule 0 0 None None) (omega arith)).0 refl in cc)
+    absurd (let no : false ≡ true = (sound.joins.both_stops 0 (join_rule 0 0 None None) (omega arith)).0 refl in cc)
 
-join_to_one_stop : IsFaulty (record base { join_rules = join_rule 0 1 None (Some (record { 0 = 0 })) ∷ [] })
+join_to_one_stop : IsFaulty (record base { joins = join_rule 0 1 None (Some (record { 0 = 0 })) ∷ [] })
 join_to_one_stop sound =
-    absurd (let no : false ≡ true = (sound.join_rules.both_stops 0 (join_rule 0 0 None None) (omega arith)).1 refl in cc)
+    absurd (let no : false ≡ true = (sound.joins.both_stops 0 (join_rule 0 0 None None) (omega arith)).1 refl in cc)
 
 -- currencies: four letters, a small letter, the character before A, one decimal, a currency without products, and none with decimals of another
 four_letters : IsFaulty (record base { currency = Some (codes "EURO") })

@@ -96,7 +96,7 @@ base =
       products = ticket 0 250 ∷ ticket 1 400 ∷ ticket 2 50 ∷ [];
       leg_rules = network_rule 0 0 0 ∷ network_rule 1 1 1 ∷ [];
       transfer_rules = transfer_rule 0 1 0 (Some (record { 0 = 2 })) ∷ [];
-      join_rules = [];
+      joins = [];
       service_names = codes "W" ∷ [];
       network_names = codes "bus" ∷ codes "rail" ∷ [];
       frame_names = [];

@@ -51,7 +51,7 @@ base_rows =
       leg_rules = record { group = Some (record { 0 = 0 }); network = Some (record { 0 = 0 }); from_area = None; to_area = None; from_frame = None; to_frame = None; product = record { 0 = 0 }; priority = 0 }
           ∷ record { group = Some (record { 0 = 1 }); network = Some (record { 0 = 1 }); from_area = None; to_area = None; from_frame = None; to_frame = None; product = record { 0 = 1 }; priority = 0 } ∷ [];
       transfer_rules = record { from = Some (record { 0 = 0 }); to = Some (record { 0 = 1 }); count = None; limit = None; kind = 0; product = Some (record { 0 = 2 }) } ∷ [];
-      join_rules = [];
+      joins = [];
       service_names = codes "W" ∷ [];
       network_names = codes "bus" ∷ codes "rail" ∷ [];
       frame_names = [];

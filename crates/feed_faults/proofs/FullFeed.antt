@@ -77,7 +77,7 @@ full_read : feed_of (files_in full)
           ∷ record { from = Some (record { 0 = 0 }); to = Some (record { 0 = 0 }); count = Some 3; limit = None; kind = 1; product = Some (record { 0 = 2 }) }
           ∷ record { from = Some (record { 0 = 0 }); to = Some (record { 0 = 1 }); count = None; limit = None; kind = 2; product = Some (record { 0 = 2 }) }
           ∷ record { from = None; to = None; count = None; limit = Some (record { seconds = 900; kind = 3 }); kind = 0; product = None } ∷ [];
-      join_rules = record { from_network = record { 0 = 1 }; to_network = record { 0 = 0 }; from_stop = Some (record { 0 = 2 }); to_stop = Some (record { 0 = 0 }) }
+      joins = record { from_network = record { 0 = 1 }; to_network = record { 0 = 0 }; from_stop = Some (record { 0 = 2 }); to_stop = Some (record { 0 = 0 }) }
           ∷ record { from_network = record { 0 = 1 }; to_network = record { 0 = 1 }; from_stop = None; to_stop = None } ∷ [];
       service_names = codes "S2" ∷ codes "S1" ∷ codes "S0" ∷ codes "S3" ∷ [];
       network_names = codes "n1" ∷ codes "n2" ∷ [];

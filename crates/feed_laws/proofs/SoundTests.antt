@@ -323,12 +323,12 @@ transfer_rules_test feed =
 -- the rules by which legs join
 abbrev join_rules_test : (feed : FeedRows) → Option (AreSoundJoinRules feed)
 join_rules_test feed =
-    ask (at_most (length feed.join_rules) most_rows) (λ few.
-    ask (each feed.join_rules (λ j. below j.from_network.0 (length feed.network_names))) (λ from_networks.
-    ask (each feed.join_rules (λ j. below j.to_network.0 (length feed.network_names))) (λ to_networks.
-    ask (each feed.join_rules (λ j. for_some j.from_stop (λ s. below s.0 (length feed.stops)))) (λ from_stops.
-    ask (each feed.join_rules (λ j. for_some j.to_stop (λ s. below s.0 (length feed.stops)))) (λ to_stops.
-    ask (each feed.join_rules (λ j. both (given (is_true (is_some j.from_stop)) (is_true (is_some j.to_stop)))
+    ask (at_most (length feed.joins) most_rows) (λ few.
+    ask (each feed.joins (λ j. below j.from_network.0 (length feed.network_names))) (λ from_networks.
+    ask (each feed.joins (λ j. below j.to_network.0 (length feed.network_names))) (λ to_networks.
+    ask (each feed.joins (λ j. for_some j.from_stop (λ s. below s.0 (length feed.stops)))) (λ from_stops.
+    ask (each feed.joins (λ j. for_some j.to_stop (λ s. below s.0 (length feed.stops)))) (λ to_stops.
+    ask (each feed.joins (λ j. both (given (is_true (is_some j.from_stop)) (is_true (is_some j.to_stop)))
     (given (is_true (is_some j.to_stop)) (is_true (is_some j.from_stop))))) (λ both_stops.
     Some (record {
       few = few;
@@ -376,7 +376,7 @@ sound_feed feed =
     and_so (products_test feed) (λ products.
     and_so (leg_rules_test feed) (λ leg_rules.
     and_so (transfer_rules_test feed) (λ transfer_rules.
-    and_so (join_rules_test feed) (λ join_rules.
+    and_so (join_rules_test feed) (λ joins.
     and_so (name_list feed.service_names) (λ service_names.
     and_so (name_list feed.network_names) (λ network_names.
     and_so (name_list feed.frame_names) (λ frame_names.
@@ -401,7 +401,7 @@ sound_feed feed =
       products = products;
       leg_rules = leg_rules;
       transfer_rules = transfer_rules;
-      join_rules = join_rules;
+      joins = joins;
       service_names = service_names;
       network_names = network_names;
       frame_names = frame_names;

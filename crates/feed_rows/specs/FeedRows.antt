@@ -42,7 +42,7 @@ pub record FeedRows : Type 0 where
   -- fare_leg_rules.txt, fare_transfer_rules.txt, fare_leg_join_rules.txt
   pub leg_rules : List LegRuleRow
   pub transfer_rules : List TransferRuleRow
-  pub join_rules : List JoinRow
+  pub joins : List JoinRow
   -- the names of services, networks, timeframe groups, products and leg groups, by first appearance
   pub service_names : List (List ℕ)
   pub network_names : List (List ℕ)

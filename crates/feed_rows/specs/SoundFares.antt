@@ -80,13 +80,13 @@ pub record AreSoundTransferRules (feed : FeedRows) : Type 0 where
 
 -- fare_leg_join_rules.txt
 pub record AreSoundJoinRules (feed : FeedRows) : Type 0 where
-  pub few : length feed.join_rules ≤ most_rows
-  pub from_networks : All (λ j. j.from_network.0 < length feed.network_names) feed.join_rules
-  pub to_networks : All (λ j. j.to_network.0 < length feed.network_names) feed.join_rules
-  pub from_stops : All (λ j. ForSome j.from_stop (λ s. s.0 < length feed.stops)) feed.join_rules
-  pub to_stops : All (λ j. ForSome j.to_stop (λ s. s.0 < length feed.stops)) feed.join_rules
+  pub few : length feed.joins ≤ most_rows
+  pub from_networks : All (λ j. j.from_network.0 < length feed.network_names) feed.joins
+  pub to_networks : All (λ j. j.to_network.0 < length feed.network_names) feed.joins
+  pub from_stops : All (λ j. ForSome j.from_stop (λ s. s.0 < length feed.stops)) feed.joins
+  pub to_stops : All (λ j. ForSome j.to_stop (λ s. s.0 < length feed.stops)) feed.joins
   -- a row names both stops or neither
-  pub both_stops : All (λ j. IsSome j.from_stop ↔ IsSome j.to_stop) feed.join_rules
+  pub both_stops : All (λ j. IsSome j.from_stop ↔ IsSome j.to_stop) feed.joins
 
 -- the currency of fare_products.txt
 pub record IsSoundCurrency (feed : FeedRows) : Type 0 where

@@ -23,7 +23,7 @@ pub record IsSoundFeed (feed : FeedRows) : Type 0 where
   pub products : AreSoundProducts feed
   pub leg_rules : AreSoundLegRules feed
   pub transfer_rules : AreSoundTransferRules feed
-  pub join_rules : AreSoundJoinRules feed
+  pub joins : AreSoundJoinRules feed
   pub service_names : IsNameList feed.service_names
   pub network_names : IsNameList feed.network_names
   pub frame_names : IsNameList feed.frame_names

@@ -81,7 +81,7 @@ pub struct Feed {
     pub products: ProductRows,
     pub leg_rules: LegRuleRows,
     pub transfer_rules: TransferRuleRows,
-    pub join_rules: JoinRows,
+    pub joins: JoinRows,
     /// The names of services.
     pub service_names: NameList,
     /// The names of fare networks.
@@ -120,7 +120,7 @@ impl Drop for Feed {
             products: _,
             leg_rules: _,
             transfer_rules: _,
-            join_rules: _,
+            joins: _,
             service_names: _,
             network_names: _,
             frame_names: _,
