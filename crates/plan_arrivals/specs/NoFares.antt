@@ -1,11 +1,12 @@
 -- A tariff that asks for no fares.
-use Rattle.std.specs.Prelude.{Bool, true, pos}
+use Rattle.std.specs.Prelude.{Bool, true, None, nat_eq, pos}
 use Rattle.std.proofs.Common.{refl, arith}
 use Rattle.std.proofs.lemmas.Int.{ints}
 use Rattle.label_order.specs.Labels.{OrderLaws}
 use Rattle.feed_rows.specs.declared.journeys.Query.{Query}
 use Rattle.feed_rows.specs.FeedRows.{FeedRows}
 use Rattle.round_search.specs.Tasks.{Task}
+use Rattle.round_search.specs.Classes.{KeepsClass}
 use Rattle.round_search.specs.Terms.{IsLawful, Terms}
 use Rattle.plan_arrivals.specs.declared.no_fares.NoFare.{NoFare}
 use Rattle.plan_arrivals.specs.declared.no_fares.NoMove.{NoMove}
@@ -16,6 +17,10 @@ any a b = true
 
 pub any_laws : OrderLaws any
 any_laws = record { reflexive = λ x. refl; transitive = λ x y z p q. refl }
+
+-- and none has a class
+pub unclassed : KeepsClass any nat_eq (λ a. None)
+unclassed a b below = refl
 
 abbrev pub no_fare : NoFare
 no_fare = record {}

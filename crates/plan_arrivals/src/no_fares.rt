@@ -1,7 +1,7 @@
 //! A tariff that asks for no fares.
 use feed_rows::RideFacts;
 use label_order::LabelOrder;
-use round_search::{Label, Tariff};
+use round_search::{Classed, Label, Tariff};
 use std::alloc::AllocError;
 use transit_base::Money;
 
@@ -19,6 +19,21 @@ impl LabelOrder for NoFare {
     }
 
     ghost laws = { any_laws };
+}
+
+impl Classed for NoFare {
+    ghost use Rattle.std.specs.Prelude.{None};
+    ghost use Rattle.plan_arrivals.specs.NoFares.{unclassed};
+
+    type Class = u8;
+
+    ghost class_of = { λ a. None };
+
+    fn class(&self) -> Option<u8> {
+        None
+    }
+
+    ghost classes = { unclassed };
 }
 
 /// Nothing pays a ride.

@@ -1,6 +1,7 @@
 pub mod LawfulLaws
 pub mod TakeLaws
 pub mod BagLaws
+pub mod ClassLaws
 pub mod CutLaws
 pub mod RideLaws
 pub mod SourceLaws

@@ -1,12 +1,12 @@
 -- Lists of labels of which one takes a label in.
-use Rattle.std.proofs.Common.{◌≡◌, sym, subst, ℕ, ◌<◌, ◌⊎◌, inl, inr, ⊎_elim, Bool, true, false, List, [], ◌∷◌}
+use Rattle.std.proofs.Common.{◌≡◌, refl, sym, subst, ℕ, zero, suc, ◌<◌, ◌⊎◌, inl, inr, ⊎_elim, Bool, true, false, List, [], ◌∷◌, ◌++◌, arith}
 use Rattle.std.specs.Prelude.{◌≢◌, Contains}
 use Rattle.std.proofs.lemmas.Bool.{cases_eq, false_from_ne_true, both_ways}
-use Rattle.std.proofs.lemmas.List.Elements.{All-contains, All-cons, All-nil, All-weaker}
+use Rattle.std.proofs.lemmas.List.Elements.{All-contains, All-cons, All-nil, All-weaker, Contains-append_cases, Contains-append_left, Contains-append_right}
 use Rattle.std.proofs.lemmas.List.Folds.{list_any-from_Any}
 use Rattle.label_bag.specs.Bags.{IsUncovered, covers as has_cover}
 use Rattle.plain_laws.specs.Plain.{joined_below}
-use Rattle.plain_laws.proofs.Laws.{All-from, Contains-joined_below, joined_below-tells, list_any_tells}
+use Rattle.plain_laws.proofs.Laws.{All-from, Contains-cons_first, Contains-joined_below, joined_below-tells, list_any_tells}
 use Rattle.search_laws.specs.Stores.{Takes}
 
 module _ {L : Type 0} (covers : L → L → Bool) where
@@ -88,3 +88,41 @@ module _ {L : Type 0} (covers : L → L → Bool) where
           to_new there.0 y there.1 there.2 (λ same.
           subst (λ i. Contains (g i) y) (sym same) (takes.keeps y (subst (λ i. Contains (f i) y) same there.2) differs));
     }
+
+  -- a list of two: the first took the label in, or the second
+  both : List L → List L → ℕ → List L
+  both a b zero = a
+  both a b (suc zero) = b
+  both a b (suc (suc n)) = []
+
+  pub takes_first : (a b new : List L) (x : L) → Takes covers a x new → Takes covers (a ++ b) x (new ++ b)
+  unfolding both
+  takes_first a b new x takes = takes_joined 2 0 (both a b) (both new b) x (omega arith) others takes
+    where
+      others : (i : ℕ) → i ≢ 0 → both new b i ≡ both a b i
+      others zero differ = absurd (differ refl)
+      others (suc zero) differ = refl
+      others (suc (suc i)) differ = refl
+
+  pub takes_second : (a b new : List L) (x : L) → Takes covers b x new → Takes covers (a ++ b) x (a ++ new)
+  unfolding both
+  takes_second a b new x takes = takes_joined 2 1 (both a b) (both a new) x (omega arith) others takes
+    where
+      others : (i : ℕ) → i ≢ 1 → both a new i ≡ both a b i
+      others zero differ = refl
+      others (suc zero) differ = absurd (differ refl)
+      others (suc (suc i)) differ = refl
+
+  -- a label behind all
+  pub takes_push : ((y : L) → covers y y ≡ true) → (old : List L) (x : L) → Takes covers old x (old ++ x ∷ [])
+  takes_push itself old x = record {
+    gathers = record {
+      still = λ y h. let some = cover_there old y h in covered_by (old ++ x ∷ []) some.0 y
+          (Contains-append_left old (x ∷ []) some.0 some.1) some.2;
+      each = All-cons (λ y. has_cover covers (old ++ x ∷ []) y ≡ true) x []
+          (covered_by (old ++ x ∷ []) x x (Contains-append_right old (x ∷ []) x (Contains-cons_first x [])) (itself x))
+          (All-nil (λ y. has_cover covers (old ++ x ∷ []) y ≡ true));
+      from = All-from (λ y. Contains old y ⊎ Contains (x ∷ []) y) (old ++ x ∷ []) (Contains-append_cases old (x ∷ []));
+    };
+    keeps = λ y at differs. Contains-append_left old (x ∷ []) y at;
+  }

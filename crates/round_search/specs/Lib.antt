@@ -2,6 +2,7 @@ pub mod Terms
 pub mod Tasks
 pub mod Labels
 pub mod CoverLaws
+pub mod Classes
 pub mod Bags
 pub mod Steps
 pub mod Cuts

@@ -40,7 +40,7 @@ impl<F: LabelOrder + Copy, M: Copy> LabelOrder for Label<F, M> {
     ghost laws = { cover_laws F.at_most F.laws };
 }
 
-/// One class: labels of each stop stand in a bag of their own.
+/// One class: labels of each stop and class stand in a bag of their own.
 impl<F: LabelOrder + Copy, M: Copy> Stair for Label<F, M> {
     ghost use Rattle.std.specs.Prelude.{refl};
     ghost use Rattle.round_search.specs.CoverLaws.{cover_rises};

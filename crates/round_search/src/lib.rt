@@ -3,12 +3,14 @@
 #![tactic(auto)]
 
 mod bags;
+mod classes;
 mod finals;
 mod label;
 mod scan;
 mod search;
 mod tariff;
 
+pub use classes::Classed;
 pub use finals::Final;
 pub use label::Label;
 pub use search::Search;

@@ -2,9 +2,9 @@
 ghost use Rattle.std.specs.Prelude.{◌≡◌, ◌<◌, ◌≤◌, OnOk};
 ghost use Rattle.feed_rows.specs.Limits.{most_rides};
 
+use crate::classes::Classed;
 use crate::label::Label;
 use feed_rows::RideFacts;
-use label_order::LabelOrder;
 use std::alloc::AllocError;
 use transit_base::Money;
 
@@ -13,8 +13,9 @@ pub trait Tariff {
     ghost use Rattle.round_search.specs.Labels.{facts_of};
     ghost use Rattle.round_search.specs.Terms.{AreEnough, IsLawful, Terms};
 
-    /// What is kept: of partial journeys that stand alike, the one is as good as the other where its fare is at most the other's.
-    type Fare: LabelOrder + Copy;
+    /// What is kept: of partial journeys that stand alike, the one is as good as the other where its fare is at most the other's. Labels
+    /// are kept, and compared, by its classes.
+    type Fare: Classed;
 
     /// What pays a ride.
     type Move: Copy;

@@ -1,10 +1,12 @@
-use Rattle.std.proofs.Common.{◌≡◌, sym, ◌∙◌, ap, subst, [], ◌++◌, ⊎_elim, All, arith}
+use Rattle.std.proofs.Common.{◌≡◌, sym, ◌∙◌, ap, subst, [], ◌++◌, ⊎_elim, All, length, arith}
 use Rattle.search_laws.specs.Links.{CoversStarts}
 use Rattle.search_laws.specs.Stores.{AreStored, Spreads}
 use Rattle.search_laws.proofs.StoreLaws.{few_more, fit_more, starts_covered, stored_more, stored_none}
 use Rattle.round_search.specs.Bags.{gathered, in_bags}
+use Rattle.round_search.specs.Finals.{AddsEnds, EndsBelow}
 use Rattle.round_search.specs.Searches.{AreEnding, IsNever, search_of, told}
 use Rattle.round_search.specs.Steps.{ways}
+use Rattle.round_search.proofs.FinalLaws.{ends_none}
 use Rattle.round_search.proofs.LawfulLaws.{cover_test}
 use Rattle.round_search.proofs.RoundLaws.{ending_of, gathered_rides, last_first}
 use Rattle.round_search.specs.Tasks.{HasLaws, task_of}
@@ -24,6 +26,13 @@ gather-requires-clause-ending g c =
     (ending_of task ([] ++ gathered 0 new) c.limit-limit.ensures.usual
     (few_more s test IsNever 0 [] _ [] new (stored_none s) spreads task.query.rides (omega arith))
     (fit_more s test IsNever 0 [] _ [] new (stored_none s) spreads))
+
+pub gather-requires-clause-ended : goal.gather-requires-clause-ended
+gather-requires-clause-ended g c =
+    let task = task_of g.T.Fare.LabelOrder.at_most g.T.Tariff.terms c.args.self.now in
+    subst (λ ls. AddsEnds task ls (EndsBelow task ls (length ls)) [] c.empty-front.result) (sym c.new-labels.ensures.items)
+    (subst (AddsEnds task [] (EndsBelow task [] 0) []) (sym c.empty-front.ensures)
+    (ends_none task [] (EndsBelow task [] 0) [] (λ triple below. let lt = below.1 in absurd (omega (arith, lt)))))
 
 pub spread_all-requires-clause-start : goal.spread_all-requires-clause-start
 spread_all-requires-clause-start g c =

@@ -1,5 +1,4 @@
-use Rattle.std.proofs.Common.{◌≡◌, length}
-use Rattle.round_search.specs.Bags.{in_bags}
+use Rattle.round_search.specs.Bags.{StayForStops, in_bags}
 use Rattle.round_search.specs.Labels.{facts_of}
 use Rattle.round_search.specs.Searches.{LeadsByFirst, SpreadsFrom}
 use Rattle.round_search.specs.Tasks.{task_of}
@@ -9,5 +8,5 @@ abbrev pub invariant-loop-k : goal.invariant-loop-k
 invariant-loop-k g l = record {
   spreads : SpreadsFrom (task_of g.T.Fare.LabelOrder.at_most g.T.Tariff.terms l.self) l.finals l.source
       (LeadsByFirst (g.T.Tariff.terms l.self.tariff) (facts_of l.source.label.now) l.caught l.moves.items l.k) (in_bags l.fn.bags) (in_bags l.bags);
-  stops : length l.bags ≡ length l.fn.bags;
+  stops : StayForStops l.fn.bags l.bags;
 }

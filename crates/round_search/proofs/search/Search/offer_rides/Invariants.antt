@@ -1,5 +1,4 @@
-use Rattle.std.proofs.Common.{◌≡◌, length}
-use Rattle.round_search.specs.Bags.{in_bags}
+use Rattle.round_search.specs.Bags.{StayForStops, in_bags}
 use Rattle.round_search.specs.Labels.{facts_of}
 use Rattle.round_search.specs.Searches.{SpreadsFrom, StepsByFirst}
 use Rattle.round_search.specs.Tasks.{task_of}
@@ -10,5 +9,5 @@ invariant-loop-k g l = record {
   spreads : SpreadsFrom (task_of g.T.Fare.LabelOrder.at_most g.T.Tariff.terms l.self) l.round.finals.now l.source
       (StepsByFirst (task_of g.T.Fare.LabelOrder.at_most g.T.Tariff.terms l.self) (facts_of l.source.label.now) l.rides l.k)
       (in_bags l.fn.bags) (in_bags l.bags);
-  stops : length l.bags ≡ length l.fn.bags;
+  stops : StayForStops l.fn.bags l.bags;
 }

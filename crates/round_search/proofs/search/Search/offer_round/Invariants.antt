@@ -1,8 +1,8 @@
-use Rattle.std.proofs.Common.{◌≡◌, [], length}
+use Rattle.std.proofs.Common.{◌≡◌, []}
 use Rattle.plan_rides.specs.Cutoffs.{cutoff_by}
 use Rattle.plan_rides.specs.InTime.{deadline}
 use Rattle.plan_rides.specs.Reached.{AreKept}
-use Rattle.round_search.specs.Bags.{in_bags}
+use Rattle.round_search.specs.Bags.{StayForStops, in_bags}
 use Rattle.round_search.specs.Scans.{SpreadsIn, StepsAtFirst}
 use Rattle.round_search.specs.Tasks.{task_of}
 use Rattle.round_search.proofs.search.Search.offer_round.Given as goal
@@ -14,5 +14,5 @@ invariant-loop-k g l = record {
   spreads : SpreadsIn (task_of g.T.Fare.LabelOrder.at_most g.T.Tariff.terms l.self) l.round
       (StepsAtFirst (task_of g.T.Fare.LabelOrder.at_most g.T.Tariff.terms l.self) l.round l.initial.room.reached.items l.k)
       (in_bags l.fn.bags) (in_bags l.bags);
-  stops : length l.bags ≡ length l.fn.bags;
+  stops : StayForStops l.fn.bags l.bags;
 }

@@ -1,5 +1,4 @@
-use Rattle.std.proofs.Common.{◌≡◌, length}
-use Rattle.round_search.specs.Bags.{in_bags}
+use Rattle.round_search.specs.Bags.{AreForStops, in_bags}
 use Rattle.round_search.specs.Searches.{IsGathered}
 use Rattle.round_search.specs.Tasks.{task_of}
 use Rattle.round_search.proofs.search.Search.spread_all.Given as goal
@@ -8,5 +7,5 @@ abbrev pub invariant-loop-count : goal.invariant-loop-count
 invariant-loop-count g l = record {
   are : IsGathered (task_of g.T.Fare.LabelOrder.at_most g.T.Tariff.terms l.self) l.count l.begin l.labels.items
       (in_bags l.bags) l.front;
-  stops : length l.bags ≡ length l.self.feed.stops;
+  stops : AreForStops l.self.feed l.bags;
 }
