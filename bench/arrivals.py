@@ -38,9 +38,8 @@ use feed_check::load;
 use feed_rows::{NO_CATEGORY, Query};
 use feed_timetable::Timetable;
 use folder_io::DirFolder;
-use plan_arrivals::NoFares;
+use plan_arrivals::labels_by;
 use plan_rides::{Rides, Scope, SpanRuns};
-use round_search::Search;
 use std::alloc::{AllocError, Global};
 use std::env;
 use std::test::Fail;
@@ -68,7 +67,7 @@ fn search(alloc: Global, timetable: &Timetable, query: &Query, times: u32) -> Re
             let rides = Rides::of(&runs, query);
             let mut count = 0u64;
             for _ in 0..times {
-                let (labels, _front) = Search::of(alloc, &rides, &NoFares).labels()?;
+                let (labels, _front) = labels_by(alloc, &rides)?;
                 count = count.wrapping_add(labels.len() as u64);
             }
             Ok(count)

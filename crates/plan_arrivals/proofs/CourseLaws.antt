@@ -1,5 +1,5 @@
 -- The ways of a search that asks for no fares are the journeys of its query.
-use Rattle.std.proofs.Common.{◌≡◌, refl, sym, ◌∙◌, ap, subst, ℕ, zero, suc, ◌+◌, ◌≤◌, true, false, List, [], ◌∷◌, ◌++◌, length, add-one, arith, ℤ, ◌≤ℤ◌, Bool}
+use Rattle.std.proofs.Common.{◌≡◌, refl, sym, ◌∙◌, ap, subst, ℕ, zero, suc, ◌+◌, ◌≤◌, true, false, List, [], ◌∷◌, ◌++◌, length, add-one, arith, ℤ, ◌≤ℤ◌, Bool, ⊎_elim}
 use Rattle.std.specs.Prelude.{◌==◌, IsTrue, Some, All, slice_get, int_le, option_and_then}
 use Rattle.std.proofs.lemmas.Bool.{ne_eqb}
 use Rattle.std.proofs.lemmas.List.{length_push}
@@ -32,8 +32,8 @@ use Rattle.round_search.specs.declared.label.Label.{Label}
 use Rattle.round_search.specs.Finals.{IsFinal}
 use Rattle.round_search.specs.Labels.{facts_of}
 use Rattle.round_search.specs.Searches.{IsSearched, told}
-use Rattle.round_search.specs.Steps.{IsEnd, IsStep, facts_after, stand_of_facts, start_facts, ways}
-use Rattle.round_search.specs.Terms.{Facts}
+use Rattle.round_search.specs.Steps.{IsEnd, IsStep, stand_of_facts, start_facts, ways}
+use Rattle.round_search.specs.Terms.{Facts, facts_after}
 use Rattle.plan_arrivals.specs.declared.no_fares.NoFare.{NoFare}
 use Rattle.plan_arrivals.specs.declared.no_fares.NoMove.{NoMove}
 use Rattle.plan_arrivals.specs.NoFares.{free_task, no_fares}
@@ -238,6 +238,7 @@ module _ (feed : FeedRows) (query : Query) where
         (λ one final. final_arrival labels one is.whole.linked final) found is.right;
     all = λ journey arrival goes.
         let e = ended_of sound journey arrival goes in
-        is.all e.n e.a journey.last (free_triple journey arrival) e.reached e.end;
+        ⊎_elim (λ found. found) (λ given. absurd (let never : false ≡ true = given in cc))
+        (is.all e.n e.a journey.last (free_triple journey arrival) e.reached e.end refl);
     front = front;
   }

@@ -1,5 +1,5 @@
 -- A tariff that asks for no fares.
-use Rattle.std.specs.Prelude.{Bool, true, None, nat_eq, pos}
+use Rattle.std.specs.Prelude.{Bool, true, None, nat_eq, pos, false, []}
 use Rattle.std.proofs.Common.{refl, arith}
 use Rattle.std.proofs.lemmas.Int.{ints}
 use Rattle.label_order.specs.Labels.{OrderLaws}
@@ -32,13 +32,15 @@ no_fares = record {
   Pays = λ a ride move. Unit {0};
   after = λ a ride move. no_fare;
   price = λ fare. pos 0;
-  least = λ fare. pos 0;
+  least = λ a. pos 0;
+  IsLate = λ a ride. Unit {0};
   IsFare = λ rides fare. Unit {0};
 }
 
 -- such a search of the query
 abbrev pub free_task : FeedRows → Query → Task NoFare NoMove
-free_task feed query = record { at_most = any; terms = no_fares; feed = feed; query = query }
+free_task feed query =
+    record { at_most = any; terms = no_fares; feed = feed; query = query; whole = true; loose = false; given = [] }
 
 pub free_lawful : IsLawful any no_fares
 free_lawful = record {

@@ -3,13 +3,37 @@ ghost use Rattle.std.specs.Prelude.{IfOk};
 ghost use Rattle.feed_rows.specs.Journeys.{asked};
 ghost use Rattle.plan_rides.specs.InTime.{IsUsualQuery};
 ghost use Rattle.plan_arrivals.specs.Arrivals.{AreArrivals};
+ghost use Rattle.plan_arrivals.specs.NoFares.{free_task};
+ghost use Rattle.round_search.specs.Searches.{IsSearched};
 
-use crate::no_fares::NoFares;
+use crate::no_fares::{NoFare, NoFares, NoMove};
 use feed_rows::{Query, Triple};
 use feed_timetable::Timetable;
-use plan_rides::{Rides, Scope, SpanRuns};
-use round_search::{Final, Search};
+use pareto_front::Front;
+use plan_rides::{Rides, Scope, SpanRuns, Spans};
+use round_search::{Aim, Final, Label, Search};
 use std::alloc::{AllocError, Global};
+
+/// The labels of all rounds by these rides, and the best that they end in.
+///
+/// # Errors
+/// Want of memory; so counts that there would be 2^32 labels or more.
+pub fn labels_by(
+    alloc: Global,
+    rides: &Rides,
+) -> Result<(Vec<Label<NoFare, NoMove>>, Front<Final>), AllocError>
+    ensures { IfOk result (λ all. IsSearched (free_task rides.now.feed rides.now.query) all.0.items all.1) }
+{
+    let fares = NoFares;
+    let spans = Spans::none(alloc);
+    let aim = Aim {
+        whole: true,
+        loose: false,
+        given: &[],
+        horizon: None,
+    };
+    Search::of(alloc, rides, &fares, &spans, aim).labels()
+}
 
 /// The best that journeys by these rides end in, whatever they cost.
 ///
@@ -19,8 +43,7 @@ fn arrivals_by(alloc: Global, rides: &Rides) -> Result<Vec<Final>, AllocError>
     ensures { IfOk result (λ found. AreArrivals rides.now.feed rides.now.query found.items) }
 {
     let _positions = rides.positions();
-    let fares = NoFares;
-    let (_labels, front) = Search::of(alloc, rides, &fares).labels()?;
+    let (_labels, front) = labels_by(alloc, rides)?;
     Ok(front.into_items())
 }
 

@@ -1,9 +1,9 @@
 //! A tariff that asks for no fares.
 use feed_rows::RideFacts;
 use label_order::LabelOrder;
-use round_search::{Classed, Label, Tariff};
+use round_search::{Classed, Label, LeastPrice, Tariff};
 use std::alloc::AllocError;
-use transit_base::Money;
+use transit_base::{Moment, Money};
 
 /// Nothing is kept of fares.
 #[derive(Clone, Copy)]
@@ -53,6 +53,8 @@ impl Tariff for NoFares {
 
     ghost terms = { λ s. no_fares };
 
+    ghost Serves = { λ asked. Unit {0} };
+
     fn begin(&self) -> NoFare {
         NoFare
     }
@@ -76,8 +78,26 @@ impl Tariff for NoFares {
         Money(0)
     }
 
-    fn least(&self, _label: &Label<NoFare, NoMove>) -> Money {
-        Money(0)
+    fn least(&self, _label: &Label<NoFare, NoMove>) -> LeastPrice {
+        LeastPrice(0)
+    }
+
+    fn least_on(
+        &self,
+        _label: &Label<NoFare, NoMove>,
+        _behind: u8,
+        _late: bool,
+    ) -> Option<LeastPrice> {
+        Some(LeastPrice(0))
+    }
+
+    fn late_since(
+        &self,
+        _label: &Label<NoFare, NoMove>,
+        _first: Moment,
+        _last: Moment,
+    ) -> Option<Moment> {
+        None
     }
 
     ghost lawful = { λ s. free_lawful };

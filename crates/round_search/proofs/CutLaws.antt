@@ -1,4 +1,4 @@
--- What cuts facts off cuts off all that they lead to.
+-- What cuts facts off cuts off all that they lead to, and what ends of labels better is bettered by ends of more.
 use Rattle.std.proofs.Common.{◌≡◌, sym, ◌∙◌, subst, ℕ, zero, suc, Bool, true, List, [], ◌++◌, length, arith, ℤ, pos, ◌+ℤ◌, ◌≤ℤ◌}
 use Rattle.std.specs.Prelude.{Option, Some, None, option_map, int_le}
 use Rattle.std.proofs.lemmas.Int.{ints}
@@ -23,10 +23,10 @@ use Rattle.search_laws.specs.Cuts.{AreCuts}
 use Rattle.search_laws.specs.Ways.{LeadsBy}
 use Rattle.round_search.specs.declared.finals.Final.{Final}
 use Rattle.round_search.specs.declared.label.Label.{Label}
-use Rattle.round_search.specs.Cuts.{Cuts, IsCut, least_end}
-use Rattle.round_search.specs.Finals.{AddsEnds, EndsBelow, IsFinal}
-use Rattle.round_search.specs.Steps.{IsCaughtFrom, IsEnd, IsStep, facts_after, stand_of_facts, ways}
-use Rattle.round_search.specs.Terms.{Covers, Facts, IsLawful, Terms}
+use Rattle.round_search.specs.Cuts.{Cuts, least_end}
+use Rattle.round_search.specs.Finals.{AddsEnds, EndsBelow, IsFinal, is_bettered}
+use Rattle.round_search.specs.Steps.{IsCaughtFrom, IsEnd, IsStep, stand_of_facts, ways}
+use Rattle.round_search.specs.Terms.{Covers, Facts, facts_after}
 use Rattle.round_search.proofs.FinalLaws.{bettered_up}
 use Rattle.round_search.proofs.LawfulLaws.{parts_below}
 use Rattle.round_search.specs.Tasks.{HasLaws, Task}
@@ -36,24 +36,20 @@ module _ {F M : Type 0} (task : Task F M) (laws : HasLaws task) where
 
   least_below : (a b : Facts F) → Covers task.at_most a b → is_no_worse (least_end task.terms a) (least_end task.terms b) ≡ true
   least_below a b covers =
-      parts_below (least_end task.terms a) (least_end task.terms b) covers.arrival covers.rides (laws.fares.least_below a.fare b.fare covers.fare)
-
-  -- what is covered by what is cut off is cut off
-  pub cut_below : (finals : List Final) (a b : Facts F) → Covers task.at_most a b → IsCut task.terms finals a → IsCut task.terms finals b
-  cut_below finals a b covers cut = bettered_up finals (least_end task.terms a) (least_end task.terms b) cut (least_below a b covers)
+      parts_below (least_end task.terms a) (least_end task.terms b) covers.arrival covers.rides (laws.fares.least_below a b covers)
 
   -- ---- finals
 
-  -- what was cut off by ends of labels is so by ends of more labels
-  pub cut_still : (labels more : List (Label F M)) (old new : List Final) →
+  -- what ends of labels better, ends of more labels do
+  pub bettered_still : (labels more : List (Label F M)) (old new : List Final) →
       AddsEnds task labels (EndsBelow task labels (length labels)) [] old →
       AddsEnds task (labels ++ more) (EndsBelow task (labels ++ more) (length (labels ++ more))) [] new →
-      (b : Facts F) → IsCut task.terms old b → IsCut task.terms new b
-  cut_still labels more old new before after b cut =
-      let some = list_any_tells (λ (final : Final). is_no_worse final.triple (least_end task.terms b)) old cut in
+      (triple : Triple) → is_bettered old triple → is_bettered new triple
+  bettered_still labels more old new before after triple is =
+      let some = list_any_tells (λ (final : Final). is_no_worse final.triple triple) old is in
       let of = All-contains (IsFinal task labels) old some.0 (before.right (All-nil (IsFinal task labels))) some.1 in
       let there = slice_get-append_left labels more some.0.label (slice_get_within labels some.0.label of.label of.is) in
-      bettered_up new some.0.triple (least_end task.terms b)
+      bettered_up new some.0.triple triple
       (after.all some.0.triple (
         some.0.label,
         slice_get_within (labels ++ more) some.0.label of.label (there ∙ of.is),
@@ -85,16 +81,11 @@ module _ {F M : Type 0} (task : Task F M) (laws : HasLaws task) where
         (parts_below (least_end task.terms a) (least_end task.terms (facts_after task.terms a step.facts move)) (later_ride a ride step.facts step.rides) (omega arith)
         (laws.fares.least_stays a step.facts move step.fare step.pays))
 
-    -- what is cut off leads only to what is
-    pub cut_after : (finals : List Final) (a b : Facts F) (ride : Ride) (move : M) → IsStep task a ride move b →
-        IsCut task.terms finals a → IsCut task.terms finals b
-    cut_after finals a b ride move step cut = bettered_up finals (least_end task.terms a) (least_end task.terms b) cut (least_after a b ride move step)
-
     least_ends : (a : Facts F) (last : StopId) (triple : Triple) → IsEnd task a last triple → is_no_worse (least_end task.terms a) triple ≡ true
     unfolding end_arrival
     least_ends a last triple e =
         parts_below (least_end task.terms a) triple (by (way_out task.feed task.query (stand_of_facts a) last) e.arrives)
-        (let same = e.rides in omega (arith, same)) (dearer (task.terms.least a.fare) (task.terms.price a.fare) triple.price.0 (laws.fares.least_ends a.fare) e.price)
+        (let same = e.rides in omega (arith, same)) (dearer (task.terms.least a) (task.terms.price a.fare) triple.price.0 (laws.fares.least_ends a) e.price)
       where
         later : (x y : ℤ) (s : ℕ) → x +ℤ pos s ≡ y → x ≤ℤ y
         later x y s e = omega (arith, ints, e)

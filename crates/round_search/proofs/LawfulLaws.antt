@@ -20,8 +20,8 @@ use Rattle.search_laws.specs.Stores.{IsCoverTest}
 use Rattle.search_laws.specs.Ways.{AreLawful, EndsNoWorse, IsFollowed}
 use Rattle.round_search.specs.CoverLaws.{cover_laws, covers-tells}
 use Rattle.round_search.specs.Searches.{search_of}
-use Rattle.round_search.specs.Steps.{IsCaughtFrom, IsEnd, IsStep, facts_after, stand_of_facts, ways}
-use Rattle.round_search.specs.Terms.{Covers, Facts, IsLawful, Terms}
+use Rattle.round_search.specs.Steps.{IsCaughtFrom, IsEnd, IsStep, stand_of_facts, ways}
+use Rattle.round_search.specs.Terms.{Covers, Facts, IsLawful, Terms, facts_after}
 use Rattle.round_search.specs.Tasks.{HasLaws, Task}
 
 no_later : (x y z : ℤ) → x ≤ℤ y → y ≤ℤ z → x ≤ℤ z

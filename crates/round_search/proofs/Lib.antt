@@ -8,3 +8,6 @@ pub mod SourceLaws
 pub mod FinalLaws
 pub mod RoundLaws
 pub mod ScanLaws
+pub mod SpanLaws
+pub mod FoundLaws
+pub mod BoundLaws

@@ -3,6 +3,7 @@ use Rattle.std.proofs.Common.{◌≡◌, refl, sym, ◌∙◌, ap, subst, ℕ, �
 use Rattle.std.specs.Prelude.{Contains, IsTrue, None, Some, slice_get}
 use Rattle.std.proofs.lemmas.Bool.{cases_lt}
 use Rattle.std.proofs.lemmas.Int.{ints}
+use Rattle.std.proofs.lemmas.List.Elements.{All-contains}
 use Rattle.std.proofs.lemmas.Option.{same_Some, slice_get_within}
 use Rattle.transit_base.specs.declared.moments.Moment.{Moment}
 use Rattle.transit_base.specs.declared.numbers.StopId.{StopId}
@@ -21,17 +22,17 @@ use Rattle.plan_rides.proofs.CaughtLaws.{caught_ride, caught_within}
 use Rattle.plan_rides.proofs.DepartureLaws.{ride_end}
 use Rattle.plan_rides.proofs.MarkLaws.{member_of_stands_for}
 use Rattle.label_order.specs.Labels.{OrderLaws}
-use Rattle.search_laws.specs.Stores.{IsFresh, IsHeldBelow}
+use Rattle.search_laws.specs.Stores.{IsFresh, IsHeldBelow, IsUncut}
 use Rattle.round_search.specs.declared.finals.Final.{Final}
 use Rattle.round_search.specs.declared.label.Label.{Label}
 use Rattle.round_search.specs.declared.search.Source.{Source}
-use Rattle.round_search.specs.Cuts.{IsCut}
+use Rattle.round_search.specs.Cuts.{Lacks}
 use Rattle.round_search.specs.Labels.{facts_of}
-use Rattle.round_search.specs.Searches.{IsSource, IsStartAmong, LeadsByFirst, SpreadsFrom, StepsBy, StepsByFirst, search_of}
-use Rattle.round_search.specs.Steps.{IsCaughtFrom, IsStep, facts_after, stand_of_facts, start_facts, ways}
+use Rattle.round_search.specs.Searches.{IsFit, IsSource, IsStartAmong, LeadsByFirst, SpreadsFrom, StepsBy, StepsByFirst, search_of}
+use Rattle.round_search.specs.Steps.{IsCaughtFrom, IsStep, stand_of_facts, start_facts, ways}
 use Rattle.round_search.specs.Tasks.{HasLaws, Task}
-use Rattle.round_search.specs.Terms.{AreEnough, Covers, Facts, IsLawful, Terms}
-use Rattle.round_search.proofs.CutLaws.{cut_below}
+use Rattle.round_search.specs.Terms.{AreEnough, Covers, Facts, IsLawful, Terms, facts_after}
+use Rattle.round_search.proofs.FoundLaws.{lacks_below}
 use Rattle.round_search.proofs.LawfulLaws.{covers-trans}
 use Rattle.plan_rides.proofs.StopLaws.{stands_inside}
 
@@ -66,7 +67,7 @@ module _ {F M : Type 0} (task : Task F M) (laws : HasLaws task) where
     };
     counts = refl;
     linked = inl (record { starts = (stands, refl); begins = record { parent = refl; ride = refl; taken = refl } });
-    uncut = λ y at last triple end cut. cut;
+    uncut = λ y at last triple end cut. let lt = at.1 in omega (arith, lt);
   }
 
   -- one more of the first stops
@@ -87,12 +88,6 @@ module _ {F M : Type 0} (task : Task F M) (laws : HasLaws task) where
       (member.0, omega (arith, lt, ap length is, all), b.stop, ap (λ ss. slice_get ss member.0) is ∙ member.2, start.1)
 
   -- ---- rides
-
-  -- each ride by which labels go on is caught in time
-  pub in_time_of : (a : Facts F) (ride : Ride) (facts : RideFacts) → IsCaughtFrom task.feed task.query (stand_of_facts a) a.rides ride facts →
-      next_in_time task.feed task.query (stand_of_facts a) ride ≡ Some (stand_at_end facts)
-  unfolding next_in_time next_stand
-  in_time_of a ride facts c = rw (c.is, c.caught, le-int_le _ _ c.in_time) refl
 
   module _ (source : Source F M) (is : IsSource task source) where
     abbrev from : Label F M
@@ -142,14 +137,20 @@ module _ {F M : Type 0} (task : Task F M) (laws : HasLaws task) where
           IsStep task (facts_of from) caught.ride move (facts_of (went_on move))
       step_after move pays = record { fare = is.fit.fare; facts = caught.facts; rides = rides_by; pays = pays; next = refl }
 
+      -- it fits
+      pub fits_after : (move : M) → IsSoundFeed task.feed → task.terms.Pays (facts_of from) caught.facts move → IsFit task (went_on move)
+      fits_after move sound pays = record {
+        inside = ride_end task.feed caught.ride caught.facts sound right.facts;
+        within = caught_within task.feed task.query (stand_of_facts (facts_of from)) caught.ride (stand_at_end caught.facts) sound is.fit.within
+            right.next;
+        fare = laws.fares.stays (facts_of from) caught.facts move is.fit.fare pays;
+      }
+
       pub fresh_after : (move : M) → IsSoundFeed task.feed → task.terms.Pays (facts_of from) caught.facts move →
+          IsUncut (search_of task) source.labels.now (went_on move) →
           IsFresh (search_of task) source.labels.now (from.rides + 1) (went_on move)
-      fresh_after move sound pays = record {
-        fits = record {
-          inside = ride_end task.feed caught.ride caught.facts sound right.facts;
-          within = caught_within task.feed task.query (stand_of_facts (facts_of from)) caught.ride (stand_at_end caught.facts) sound is.fit.within right.next;
-          fare = laws.fares.stays (facts_of from) caught.facts move is.fit.fare pays;
-        };
+      fresh_after move sound pays uncut = record {
+        fits = fits_after move sound pays;
         counts = refl;
         linked = inr (record {
           number = source.number;
@@ -160,7 +161,7 @@ module _ {F M : Type 0} (task : Task F M) (laws : HasLaws task) where
           goes = record { parent = refl; ride = refl; taken = refl };
           step = step_after move pays;
         });
-        uncut = λ y at last triple end cut. cut;
+        uncut = uncut;
       }
 
       -- one more of the moves
@@ -174,46 +175,59 @@ module _ {F M : Type 0} (task : Task F M) (laws : HasLaws task) where
           inr (leads.4 ∙ ap (λ m. facts_after task.terms (facts_of from) caught.facts m)
           (same_Some _ _ (sym leads.3 ∙ ap (slice_get moves) same ∙ at)))) (cases_lt leads.0 k)
 
+      -- a move leads to what is as good as such facts
+      record Lesser (moves : List M) (b : Facts F) : Type 0 where
+        move : M
+        among : Contains moves move
+        covers : Covers task.at_most (facts_after task.terms (facts_of from) caught.facts move) b
+        of_it : task.terms.IsFare (from.rides + 1) (task.terms.after (facts_of from) caught.facts move)
+        of_other : task.terms.IsFare b.rides b.fare
+
       -- the moves were enough: what the ride leads to by any is held where what it leads to by each of them is
-      pub spreads_by : (finals : List Final) (moves : List M) (n : ℕ) (old new : List (Label F M)) →
+      pub spreads_by : IsSoundFeed task.feed → (finals : List Final) (moves : List M) (n : ℕ) (old new : List (Label F M)) →
           AreEnough task.at_most task.terms (facts_of from) caught.facts moves → length moves ≤ n →
           SpreadsFrom task finals source (LeadsByFirst task.terms (facts_of from) caught moves n) old new →
           SpreadsFrom task finals source (StepsBy task (facts_of from) caught.ride) old new
-      spreads_by finals moves n old new enough all spreads = record {
+      spreads_by sound finals moves n old new enough all spreads = record {
         still = spreads.still;
         kept = spreads.kept;
         right = spreads.right;
         all = λ b by. held b by;
       }
         where
-          below_step : (b : Facts F) (by : StepsBy task (facts_of from) caught.ride b) →
-              (lesser : M) × Contains moves lesser × Covers task.at_most (facts_after task.terms (facts_of from) caught.facts lesser) b
+          below_step : (b : Facts F) (by : StepsBy task (facts_of from) caught.ride b) → Lesser moves b
           below_step b by =
               let step = by.1 in
               let same : step.facts ≡ caught.facts = same_Some _ _ (sym step.rides.is ∙ right.facts) in
               let pays = subst (λ (f : RideFacts). task.terms.Pays (facts_of from) f by.0) same step.pays in
               let lesser = enough.enough by.0 pays in
-              let next = step.next ∙ ap (λ (f : RideFacts). facts_after task.terms (facts_of from) f by.0) same in (
-                lesser.0,
-                lesser.1,
-                subst (Covers task.at_most (facts_after task.terms (facts_of from) caught.facts lesser.0)) (sym next) (record {
+              let next = step.next ∙ ap (λ (f : RideFacts). facts_after task.terms (facts_of from) f by.0) same in
+              record {
+                move = lesser.0;
+                among = lesser.1;
+                covers = subst (Covers task.at_most (facts_after task.terms (facts_of from) caught.facts lesser.0)) (sym next) (record {
                   stop = refl;
                   arrival = omega (arith, ints);
                   rides = omega arith;
                   fresh = refl;
                   fare = lesser.2;
-                }),
-              )
+                });
+                of_it = laws.fares.stays (facts_of from) caught.facts lesser.0 is.fit.fare
+                    (All-contains (task.terms.Pays (facts_of from) caught.facts) moves lesser.0 enough.right lesser.1);
+                of_other = subst (λ (f : Facts F). task.terms.IsFare f.rides f.fare) (sym next)
+                    (laws.fares.stays (facts_of from) caught.facts by.0 is.fit.fare pays);
+              }
 
           held : (b : Facts F) → StepsBy task (facts_of from) caught.ride b →
-              IsHeldBelow (Covers task.at_most) facts_of new b ⊎ IsCut task.terms finals b
+              IsHeldBelow (Covers task.at_most) facts_of new b ⊎ Lacks task finals b
           held b by =
               let some = below_step b by in
-              let at = slice_get-Contains moves some.0 some.1 in
-              let lt = slice_get_within moves at.0 some.0 at.1 in
-              ⊎_elim (λ h. inl (h.0, h.1, covers-trans task laws (facts_of h.0) (facts_after task.terms (facts_of from) caught.facts some.0) b h.2 some.2))
-              (λ cut. inr (cut_below task laws finals (facts_after task.terms (facts_of from) caught.facts some.0) b some.2 cut))
-              (spreads.all (facts_after task.terms (facts_of from) caught.facts some.0) (at.0, omega (arith, lt, all), some.0, at.1, refl))
+              let a = facts_after task.terms (facts_of from) caught.facts some.move in
+              let at = slice_get-Contains moves some.move some.among in
+              let lt = slice_get_within moves at.0 some.move at.1 in
+              ⊎_elim (λ h. inl (h.0, h.1, covers-trans task laws (facts_of h.0) a b h.2 some.covers))
+              (λ lack. inr (lacks_below task laws sound finals a b some.of_it some.of_other some.covers lack))
+              (spreads.all a (at.0, omega (arith, lt, all), some.move, at.1, refl))
 
     -- one more of the rides
     pub rides_more : (rides : List CaughtRide) (k : ℕ) (caught : CaughtRide) (b : Facts F) → slice_get rides k ≡ Some caught →

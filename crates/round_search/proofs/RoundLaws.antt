@@ -1,5 +1,5 @@
 -- What a search holds after each round, and after all.
-use Rattle.std.proofs.Common.{◌≡◌, ℕ, ◌+◌, ◌≤◌, Bool, true, List, arith}
+use Rattle.std.proofs.Common.{◌≡◌, ℕ, ◌+◌, ◌≤◌, Bool, true, List, inl, arith}
 use Rattle.std.specs.Prelude.{All, Contains, ◌==◌}
 use Rattle.std.proofs.lemmas.Bool.{eqb-true}
 use Rattle.std.proofs.lemmas.List.Elements.{All-nil}
@@ -20,13 +20,14 @@ use Rattle.search_laws.proofs.StoreLaws.{whole_of, whole_weaker}
 use Rattle.round_search.specs.declared.finals.Final.{Final}
 use Rattle.round_search.specs.declared.label.Label.{Label}
 use Rattle.round_search.specs.Bags.{gathered}
-use Rattle.round_search.specs.Cuts.{Cuts, IsCut, least_end}
+use Rattle.round_search.specs.Cuts.{Cuts, IsFoundBy, Lacks}
 use Rattle.round_search.specs.Finals.{IsFinal, is_bettered}
 use Rattle.round_search.specs.Labels.{facts_of}
 use Rattle.round_search.specs.Searches.{AreEnding, AreLast, IsFit, IsGathered, IsSearched, search_of, told}
 use Rattle.round_search.specs.Steps.{IsEnd, ways}
 use Rattle.round_search.specs.Terms.{IsLawful, Terms}
 use Rattle.round_search.proofs.CutLaws.{cuts}
+use Rattle.round_search.proofs.FoundLaws.{found_up}
 use Rattle.round_search.proofs.FinalLaws.{bettered_up}
 use Rattle.round_search.proofs.LawfulLaws.{cover_test, ways_lawful}
 use Rattle.round_search.specs.Tasks.{HasLaws, Task}
@@ -53,10 +54,10 @@ last_first {F} {M} labels none = record {
 module _ {F M : Type 0} (task : Task F M) (laws : HasLaws task) where
   module _ (begin : ℕ) (labels bags : List (Label F M)) (finals : List Final)
       (are : IsGathered task task.query.rides begin labels bags finals) where
-    whole : AreWhole (search_of task) (IsCut task.terms finals) task.query.rides labels
+    whole : AreWhole (search_of task) (Lacks task finals) task.query.rides labels
     whole =
         whole_of (search_of task) (cover_test task laws) (task.query.rides + 1) labels bags are.stored
-        (IsCut task.terms finals) task.query.rides (omega arith) are.apart are.closed are.starts (λ x ride move b step. step.rides.few)
+        (Lacks task finals) task.query.rides (omega arith) are.apart are.closed are.starts (λ x ride move b step. step.rides.few)
 
     ended : (x : Label F M) (last : StopId) (triple : Triple) → Contains labels x → IsEnd task (facts_of x) last triple →
         is_bettered finals triple
@@ -69,13 +70,11 @@ module _ {F M : Type 0} (task : Task F M) (laws : HasLaws task) where
     searched_of sound = record {
       whole = whole;
       right = are.ended.right (All-nil (IsFinal task labels));
-      all = λ n a last triple reached end.
+      all = λ n a last triple reached end strict.
           let more =
-          whole_weaker (search_of task) (IsCut task.terms finals)
-          (MayLack (ways task) (Cuts task.terms) true (is_bettered finals)) task.query.rides labels
-          (λ b cut. (least_end task.terms b, cut, at_most-refl (least_end task.terms b))) whole in
-          each_found (ways task) (ways_lawful task laws) (told task) (Cuts task.terms)
-          (cuts task laws sound)
-          (is_bettered finals) (λ s worse le found. bettered_up finals s worse found le) true labels more.linked more.starts more.closed
-          ended n a last triple reached end;
+          whole_weaker (search_of task) (Lacks task finals) (MayLack (ways task) (Cuts task.terms) task.whole (IsFoundBy task finals))
+          task.query.rides labels (λ b lack. lack strict) whole in
+          each_found (ways task) (ways_lawful task laws) (told task) (Cuts task.terms) (cuts task laws sound) (IsFoundBy task finals)
+          (found_up task finals) task.whole labels more.linked more.starts more.closed
+          (λ x last triple at end. inl (ended x last triple at end)) n a last triple reached end;
     }

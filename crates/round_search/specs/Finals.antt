@@ -1,5 +1,5 @@
 -- What the labels of a search end in.
-use Rattle.std.specs.Prelude.{◌≡◌, ℕ, ◌<◌, true, List, slice_get, Some}
+use Rattle.std.specs.Prelude.{◌≡◌, ℕ, ◌<◌, true, List, length, slice_get, Some}
 use Rattle.std.specs.List.{list_any}
 use Rattle.transit_base.specs.declared.numbers.StopId.{StopId}
 use Rattle.feed_rows.specs.declared.fares.Triple.{Triple}
@@ -36,6 +36,10 @@ EndsIn task x triple = (last : StopId) × IsEnd task (facts_of x) last triple
 abbrev pub EndsBelow : {F M : Type 0} → Task F M → List (Label F M) → ℕ → Triple → Type 0
 EndsBelow {F} {M} task labels n triple =
     (k : ℕ) × (k < n) × (x : Label F M) × (slice_get labels k ≡ Some x) × EndsIn task x triple
+
+-- whatever the labels end in, some final is at most it
+abbrev pub HasEnds : {F M : Type 0} → Task F M → List (Label F M) → List Final → Type 0
+HasEnds task labels finals = (triple : Triple) → EndsBelow task labels (length labels) triple → is_bettered finals triple
 
 -- what was bettered still is, and so is each triple of this part; the finals are ends of labels
 abbrev pub AddsEnds : {F M : Type 0} → Task F M → List (Label F M) → (Triple → Type 0) → List Final → List Final → Type 0

@@ -7,5 +7,7 @@ pub mod Bags
 pub mod Steps
 pub mod Cuts
 pub mod Searches
+pub mod Bounds
 pub mod Finals
 pub mod Scans
+pub mod NoSpans

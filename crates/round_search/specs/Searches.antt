@@ -1,5 +1,5 @@
 -- The search by rounds as one that goes on from labels, and the parts of its rounds.
-use Rattle.std.specs.Prelude.{◌≡◌, ℕ, ◌+◌, ◌<◌, ◌≤◌, ◌^◌, Bool, List, [], length, slice_get, All, Some, None}
+use Rattle.std.specs.Prelude.{◌≡◌, ℕ, ◌+◌, ◌<◌, ◌≤◌, ◌^◌, Bool, List, [], length, slice_get, All, Some, None, false}
 use Rattle.transit_base.specs.declared.numbers.StopId.{StopId}
 use Rattle.feed_rows.specs.declared.fares.Triple.{Triple}
 use Rattle.feed_rows.specs.declared.journeys.Query.{Query}
@@ -15,11 +15,11 @@ use Rattle.search_laws.specs.Ways.{IsReached}
 use Rattle.round_search.specs.declared.label.Label.{Label}
 use Rattle.round_search.specs.declared.search.Source.{Source}
 use Rattle.round_search.specs.declared.finals.Final.{Final}
-use Rattle.round_search.specs.Cuts.{IsCut}
+use Rattle.round_search.specs.Cuts.{Cuts, IsFoundBy, Lacks}
 use Rattle.round_search.specs.Finals.{AddsEnds, EndsBelow, IsFinal, is_bettered}
 use Rattle.round_search.specs.Labels.{covers, facts_of}
-use Rattle.round_search.specs.Steps.{IsEnd, IsStep, facts_after, stand_of_facts, start_facts, ways}
-use Rattle.round_search.specs.Terms.{Facts, Terms}
+use Rattle.round_search.specs.Steps.{IsEnd, IsStep, stand_of_facts, start_facts, ways}
+use Rattle.round_search.specs.Terms.{Facts, Terms, facts_after}
 use Rattle.round_search.specs.Tasks.{Task}
 
 -- ---- the search
@@ -52,14 +52,14 @@ told task = record {
   GoesOn = GoesOn;
 }
 
--- the search by such terms; of ends that cut its labels off nothing is asked, since labels may lack what is cut off, and needn't
+-- the search for the task
 abbrev pub search_of : {F M : Type 0} → Task F M →
     Search (Label F M) (Facts F) Ride M StopId Triple
 search_of task = record {
   ways = ways task;
   told = told task;
   covers = covers task.at_most;
-  Cuts = λ triple a. ⊥;
+  Cuts = Cuts task.terms;
 }
 
 -- ---- parts of a round
@@ -110,11 +110,11 @@ pub record AreLast {F M : Type 0} (rides begin : ℕ) (labels : List (Label F M)
   pub last : (i : ℕ) (x : Label F M) → slice_get labels i ≡ Some x → begin ≤ i → x.rides ≡ rides
   pub before : (i : ℕ) (x : Label F M) → slice_get labels i ≡ Some x → i < begin → x.rides < rides
 
--- the bags gain what covers this part but for what the finals cut off, with one ride more than the source
+-- the bags gain what covers this part but for what the search may lack, with one ride more than the source
 abbrev pub SpreadsFrom : {F M : Type 0} → Task F M → List Final → Source F M → (Facts F → Type 0) →
     List (Label F M) → List (Label F M) → Type 0
 SpreadsFrom task finals source Part old new =
-    Spreads (search_of task) (IsCut task.terms finals) source.labels.now (source.label.now.rides + 1) Part old new
+    Spreads (search_of task) (Lacks task finals) source.labels.now (source.label.now.rides + 1) Part old new
 
 -- ---- labels that end
 
@@ -139,17 +139,17 @@ pub record IsGathered {F M : Type 0} (task : Task F M) (rides begin : ℕ)
     (labels bags : List (Label F M)) (finals : List Final) : Type 0 where
   pub stored : AreStored (search_of task) (rides + 1) labels bags
   pub apart : AreApart (covers task.at_most) bags
-  pub closed : AreClosedTo (search_of task) (IsCut task.terms finals) rides labels
+  pub closed : AreClosedTo (search_of task) (Lacks task finals) rides labels
   pub starts : CoversStarts (ways task) (told task) labels
   pub ended : AddsEnds task labels (EndsBelow task labels (length labels)) [] finals
   pub numbers : length labels < 2 ^ 32
   pub last : AreLast rides begin labels
 
--- the labels of all rounds cover the starts and each step from each of them, and none covers another; the finals are what they end in,
--- and so all in which ways of the search end
+-- the labels of all rounds cover the starts and each step from each of them but what the search may lack, and none covers another; the
+-- finals are what they end in; and where the search isn't loose, all in which its ways end is found
 pub record IsSearched {F M : Type 0} (task : Task F M)
     (labels : List (Label F M)) (finals : List Final) : Type 0 where
-  pub whole : AreWhole (search_of task) (IsCut task.terms finals) task.query.rides labels
+  pub whole : AreWhole (search_of task) (Lacks task finals) task.query.rides labels
   pub right : All (IsFinal task labels) finals
   pub all : (n : ℕ) (a : Facts F) (last : StopId) (triple : Triple) → IsReached (ways task) n a →
-      IsEnd task a last triple → is_bettered finals triple
+      IsEnd task a last triple → task.loose ≡ false → IsFoundBy task finals triple

@@ -12,7 +12,7 @@ use Rattle.feed_rows.specs.ParetoTriples.{at_most as is_no_worse}
 use Rattle.feed_rows.specs.Rides.{ride_facts}
 use Rattle.plan_rides.specs.InTime.{deadline}
 use Rattle.search_laws.specs.Ways.{Ways}
-use Rattle.round_search.specs.Terms.{Covers, Facts, Terms}
+use Rattle.round_search.specs.Terms.{Covers, Facts, Terms, facts_after}
 use Rattle.round_search.specs.Tasks.{Task}
 
 -- those of a journey without rides from this stop
@@ -22,11 +22,6 @@ start_facts t query stop = record { stop = stop; arrival = query.departure.0; ri
 -- where and since when one stands
 abbrev pub stand_of_facts : {F : Type 0} → Facts F → Stand
 stand_of_facts a = record { stop = a.stop; at = a.arrival; fresh = a.rides == 0 }
-
--- those after one more ride, which the move pays
-abbrev pub facts_after : {F M : Type 0} → Terms F M → Facts F → RideFacts → M → Facts F
-facts_after t a ride move =
-    record { stop = ride.to; arrival = ride.arrival.0; rides = a.rides + 1; fare = t.after a ride move }
 
 -- after so many rides, the ride is caught from where one stands, within the query's window and limit of rides
 pub record IsCaughtFrom (feed : FeedRows) (query : Query) (stand : Stand) (rides : ℕ) (ride : Ride) (facts : RideFacts) : Type 0 where

@@ -20,10 +20,17 @@ pub record Terms (F M : Type 0) : Type 1 where
   pub after : Facts F → RideFacts → M → F
   -- what a journey costs that ends with such a fare
   pub price : F → ℤ
-  -- no journey that goes on with such a fare costs less
-  pub least : F → ℤ
+  -- no journey that goes on from such facts, or ends with them, costs less
+  pub least : Facts F → ℤ
+  -- the ride is late after such facts, so that further rides may cost more
+  pub IsLate : Facts F → RideFacts → Type 0
   -- partial journeys of so many rides have such a fare
   pub IsFare : ℕ → F → Type 0
+
+-- the facts after one more ride, which the move pays
+abbrev pub facts_after : {F M : Type 0} → Terms F M → Facts F → RideFacts → M → Facts F
+facts_after t a ride move =
+    record { stop = ride.to; arrival = ride.arrival.0; rides = a.rides + 1; fare = t.after a ride move }
 
 -- the one is as good as the other, whatever comes after: a journey without rides stands otherwise than one with some, since it may
 -- still begin where it stands
@@ -49,10 +56,10 @@ pub record IsLawful {F M : Type 0} (at_most : F → F → Bool) (t : Terms F M) 
   pub follow : (a b : Facts F) (ride : RideFacts) (move : M) → t.IsFare a.rides a.fare → t.IsFare b.rides b.fare →
       Covers at_most a b → t.Pays b ride move → PaysNoWorse at_most t a ride (t.after b ride move)
   pub costs : (a b : F) → at_most a b ≡ true → t.price a ≤ℤ t.price b
-  pub least_ends : (a : F) → t.least a ≤ℤ t.price a
+  pub least_ends : (a : Facts F) → t.least a ≤ℤ t.price a.fare
   pub least_stays : (a : Facts F) (ride : RideFacts) (move : M) → t.IsFare a.rides a.fare → t.Pays a ride move →
-      t.least a.fare ≤ℤ t.least (t.after a ride move)
-  pub least_below : (a b : F) → at_most a b ≡ true → t.least a ≤ℤ t.least b
+      t.least a ≤ℤ t.least (facts_after t a ride move)
+  pub least_below : (a b : Facts F) → Covers at_most a b → t.least a ≤ℤ t.least b
 
 -- each of these moves pays the ride, and of each that pays it one of them leads to what is as good
 pub record AreEnough {F M : Type 0} (at_most : F → F → Bool) (t : Terms F M) (a : Facts F) (ride : RideFacts) (moves : List M) : Type 0 where

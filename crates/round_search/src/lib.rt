@@ -2,7 +2,9 @@
 //! of all labels those stay that no other is as good as.
 #![tactic(auto)]
 
+mod aim;
 mod bags;
+mod bounds;
 mod classes;
 mod finals;
 mod label;
@@ -10,8 +12,9 @@ mod scan;
 mod search;
 mod tariff;
 
+pub use aim::Aim;
 pub use classes::Classed;
 pub use finals::Final;
 pub use label::Label;
 pub use search::Search;
-pub use tariff::Tariff;
+pub use tariff::{LeastPrice, Tariff};

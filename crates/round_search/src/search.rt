@@ -1,5 +1,5 @@
 //! The search: each round goes on by one more ride from the labels of the round before.
-ghost use Rattle.std.specs.Prelude.{◌≡◌, ◌+◌, ◌<◌, ◌≤◌, ◌^◌, ◌++◌, [], length, IfOk, IsTrue, OnOk, slice_get, Some};
+ghost use Rattle.std.specs.Prelude.{◌≡◌, ◌+◌, ◌<◌, ◌≤◌, ◌^◌, ◌++◌, [], length, IfOk, IsTrue, OnOk, slice_get, Some, true};
 ghost use Rattle.feed_rows.specs.Journeys.{stands_for};
 ghost use Rattle.feed_rows.specs.Limits.{most_rides};
 ghost use Rattle.feed_rows.specs.SoundFeed.{IsSoundFeed};
@@ -9,22 +9,25 @@ ghost use Rattle.label_bag.specs.Bags.{AreApart};
 ghost use Rattle.plan_rides.specs.InTime.{IsRight, IsUsualQuery};
 ghost use Rattle.search_laws.specs.Stores.{AreStored, AreWhole, Spreads, StepsFrom};
 ghost use Rattle.round_search.specs.Bags.{AreForStops, StayForStops, gathered, in_bags};
-ghost use Rattle.round_search.specs.Cuts.{IsCut, is_cut};
-ghost use Rattle.round_search.specs.Finals.{AddsEnds, EndsBelow, EndsIn};
+ghost use Rattle.round_search.specs.Cuts.{Lacks};
+ghost use Rattle.plan_rides.specs.Spans.{AreSpans, no_spans};
+ghost use Rattle.round_search.specs.Finals.{AddsEnds, EndsBelow, EndsIn, HasEnds};
 ghost use Rattle.round_search.specs.Labels.{covers, facts_of};
 ghost use Rattle.round_search.specs.Searches.{AreEnding, AreLast, IsGathered, IsNever, IsSearched, IsEnding, IsSource, SpreadsFrom, StepsBy, StepsTo, search_of};
-ghost use Rattle.round_search.specs.Tasks.{task_of};
-ghost use Rattle.round_search.specs.Steps.{IsEnd, facts_after, stand_of_facts, start_facts, ways};
+ghost use Rattle.round_search.specs.Tasks.{IsAim, asked_by, task_of};
+ghost use Rattle.round_search.specs.Terms.{facts_after};
+ghost use Rattle.round_search.specs.Steps.{IsEnd, stand_of_facts, start_facts, ways};
 
+use crate::aim::Aim;
 use crate::bags::StopBags;
 use crate::finals::Final;
 use crate::label::Label;
-use crate::scan::{Room, Round};
+use crate::scan::{Marks, Room, Round};
 use crate::tariff::Tariff;
 use feed_rows::{Feed, Query, Triple};
 use feed_timetable::Standing;
 use pareto_front::Front;
-use plan_rides::{CaughtRide, KeptRides, Rides};
+use plan_rides::{CaughtRide, KeptRides, Rides, Spans};
 use std::alloc::{AllocError, Global};
 use std::marker::Model;
 use transit_base::StopId;
@@ -34,15 +37,22 @@ use transit_base::StopId;
 pub struct Search<'s, 'l, T: Tariff> {
     alloc: Global,
     rides: &'l Rides<'s>,
-    tariff: &'l T,
+    pub(crate) tariff: &'l T,
+    /// The least seconds to a journey's end; none where the search is to be whole.
+    pub(crate) spans: &'l Spans,
+    pub(crate) aim: Aim<'l>,
 }
 
 impl<'s, 'l, T: Tariff> Model for Search<'s, 'l, T> {
-    ghost use Rattle.round_search.specs.Tasks.{Asked};
+    ghost use Rattle.std.specs.Prelude.{◌≡◌, true};
+    ghost use Rattle.plan_rides.specs.Spans.{AreSpans, no_spans};
+    ghost use Rattle.round_search.specs.Tasks.{Asked, IsAim, asked_by};
 
     ghost Value = { Asked T };
 
-    ghost view = { λ s. record { tariff = s.tariff.now; feed = s.rides.now.feed; query = s.rides.now.query } };
+    ghost view = { λ s. asked_by s.tariff.now s.rides.now s.aim };
+
+    ghost invariant = { λ s. IsAim s.aim × T.Serves (asked_by s.tariff.now s.rides.now s.aim) × AreSpans s.rides.now.feed s.rides.now.query s.spans.now × (s.aim.whole ≡ true → s.spans.now ≡ no_spans) };
 }
 
 /// A label with its number among those so far, from which a round goes on.
@@ -65,14 +75,26 @@ pub(crate) fn standing<F: Copy, M: Copy>(label: &Label<F, M>) -> Standing
 }
 
 impl<'s, 'l, T: Tariff> Search<'s, 'l, T> {
-    /// The search by these.
-    pub fn of(alloc: Global, rides: &'l Rides<'s>, tariff: &'l T) -> Self
-        ensures { result ≡ record { tariff = tariff.now; feed = rides.now.feed; query = rides.now.query } }
+    /// The search by these; one that is to be whole needs no spans.
+    pub fn of(
+        alloc: Global,
+        rides: &'l Rides<'s>,
+        tariff: &'l T,
+        spans: &'l Spans,
+        aim: Aim<'l>,
+    ) -> Self
+        requires serves { T.Serves (asked_by tariff.now rides.now aim) }
+        requires aim { IsAim aim }
+        requires spans { AreSpans rides.now.feed rides.now.query spans.now }
+        requires none { aim.whole ≡ true → spans.now ≡ no_spans }
+        ensures { result ≡ asked_by tariff.now rides.now aim.entry }
     {
         Search {
             alloc,
             rides,
             tariff,
+            spans,
+            aim,
         }
     }
 
@@ -85,7 +107,7 @@ impl<'s, 'l, T: Tariff> Search<'s, 'l, T> {
     }
 
     /// The greatest number of rides.
-    fn limit(&self) -> u8
+    pub(crate) fn limit(&self) -> u8
         ensures is { result ≡ self.now.query.rides }
         ensures usual { IsUsualQuery self.now.query }
     {
@@ -93,7 +115,7 @@ impl<'s, 'l, T: Tariff> Search<'s, 'l, T> {
     }
 
     /// The feed.
-    fn feed(&self) -> &Feed
+    pub(crate) fn feed(&self) -> &Feed
         ensures value { result.now ≡ self.now.feed }
         ensures sound { IsSoundFeed self.now.feed }
     {
@@ -150,34 +172,18 @@ impl<'s, 'l, T: Tariff> Search<'s, 'l, T> {
         Ok(())
     }
 
-    /// Whether something that is found is as good as whatever the label leads to.
-    pub(crate) fn is_cut(&self, finals: &Front<Final>, label: &Label<T::Fare, T::Move>) -> bool
-        requires fare { (T.terms self.now.tariff).IsFare label.now.rides label.now.fare }
-        requires few { label.now.rides ≤ most_rides }
-        ensures { result ≡ is_cut (T.terms self.now.tariff) finals.now (facts_of label.now) }
-    {
-        finals.covers(&Final {
-            triple: Triple {
-                arrival: label.arrival,
-                rides: label.rides,
-                price: self.tariff.least(label),
-            },
-            label: 0,
-            last: label.stop,
-        })
-    }
-
-    /// Offers what the ride leads to from the label by the move, unless it is cut off.
+    /// Offers what the ride leads to from the label by the move, unless all that it leads to is found.
     fn offer_move(
         &self,
         bags: &mut StopBags<T::Fare, T::Move>,
-        finals: &Front<Final>,
+        finals: &[Final],
         source: &Source<T::Fare, T::Move>,
         caught: &CaughtRide,
         taken: &T::Move,
     ) -> Result<(), AllocError>
         requires source { IsSource (task_of T.Fare.at_most T.terms self.now) source.now }
         requires right { IsRight self.now.feed self.now.query (stand_of_facts (facts_of source.now.label.now)) caught.now }
+        requires ended { HasEnds (task_of T.Fare.at_most T.terms self.now) source.now.labels.now finals.now }
         requires pays { (T.terms self.now.tariff).Pays (facts_of source.now.label.now) caught.now.facts taken.now }
         requires stops { AreForStops self.now.feed bags.old }
         ensures spreads { OnOk result (SpreadsFrom (task_of T.Fare.at_most T.terms self.now) finals.now source.now (λ b. b ≡ facts_after (T.terms self.now.tariff) (facts_of source.now.label.now) caught.now.facts taken.now) (in_bags bags.old) (in_bags bags.new)) }
@@ -195,6 +201,9 @@ impl<'s, 'l, T: Tariff> Search<'s, 'l, T> {
             ride: Some(caught.ride),
             taken: Some(*taken),
         };
+        if self.is_useless(finals, &next) {
+            return Ok(());
+        }
         if self.is_cut(finals, &next) {
             return Ok(());
         }
@@ -205,17 +214,19 @@ impl<'s, 'l, T: Tariff> Search<'s, 'l, T> {
     pub(crate) fn offer_ride(
         &self,
         bags: &mut StopBags<T::Fare, T::Move>,
-        finals: &Front<Final>,
+        finals: &[Final],
         source: &Source<T::Fare, T::Move>,
         caught: &CaughtRide,
         moves: &mut Vec<T::Move>,
     ) -> Result<(), AllocError>
         requires source { IsSource (task_of T.Fare.at_most T.terms self.now) source.now }
         requires right { IsRight self.now.feed self.now.query (stand_of_facts (facts_of source.now.label.now)) caught.now }
+        requires ended { HasEnds (task_of T.Fare.at_most T.terms self.now) source.now.labels.now finals.now }
         requires stops { AreForStops self.now.feed bags.old }
         ensures spreads { OnOk result (SpreadsFrom (task_of T.Fare.at_most T.terms self.now) finals.now source.now (StepsBy (task_of T.Fare.at_most T.terms self.now) (facts_of source.now.label.now) caught.now.ride) (in_bags bags.old) (in_bags bags.new)) }
         ensures stops { OnOk result (StayForStops bags.old bags.new) }
     {
+        let _feed = self.feed();
         self.tariff.moves_into(source.label, &caught.facts, moves)?;
         for k in 0..moves.len() {
             self.offer_move(bags, finals, source, caught, &moves[k])?;
@@ -237,16 +248,18 @@ impl<'s, 'l, T: Tariff> Search<'s, 'l, T> {
         requires few { count < self.now.query.rides }
         requires stored { AreStored (search_of (task_of T.Fare.at_most T.terms self.now)) (count + 1) labels.now (in_bags bags.old) }
         requires last { AreLast count begin labels.now }
+        requires ended { HasEnds (task_of T.Fare.at_most T.terms self.now) labels.now front.now }
         requires numbers { length labels.now < 2 ^ 32 }
         requires stops { AreForStops self.now.feed bags.old }
-        ensures spreads { OnOk result (Spreads (search_of (task_of T.Fare.at_most T.terms self.now)) (IsCut (T.terms self.now.tariff) front.now) labels.now (count + 1) (StepsFrom (search_of (task_of T.Fare.at_most T.terms self.now)) labels.now count) (in_bags bags.old) (in_bags bags.new)) }
+        ensures spreads { OnOk result (Spreads (search_of (task_of T.Fare.at_most T.terms self.now)) (Lacks (task_of T.Fare.at_most T.terms self.now) front.now) labels.now (count + 1) (StepsFrom (search_of (task_of T.Fare.at_most T.terms self.now)) labels.now count) (in_bags bags.old) (in_bags bags.new)) }
         ensures stops { OnOk result (StayForStops bags.old bags.new) }
     {
         let _limit = self.limit();
+        let finals = front.items();
         let round = Round {
             positions: self.rides.positions(),
             labels,
-            finals: front,
+            finals,
             begin,
             count,
         };
@@ -356,7 +369,11 @@ impl<'s, 'l, T: Tariff> Search<'s, 'l, T> {
     {
         let _feed = self.feed();
         let mut room = Room {
-            reached: Vec::new(self.alloc),
+            marks: Marks {
+                reached: Vec::new(self.alloc),
+                untils: Vec::new(self.alloc),
+                last: self.departure(),
+            },
             rides: KeptRides::none(self.alloc),
             moves: Vec::new(self.alloc),
         };

@@ -1,8 +1,5 @@
 use Rattle.std.proofs.Common.{sym, subst}
-use Rattle.round_search.specs.Searches.{IsSearched}
-use Rattle.round_search.specs.Tasks.{Asked}
 use Rattle.plan_arrivals.specs.Arrivals.{AreArrivals}
-use Rattle.plan_arrivals.specs.NoFares.{free_task}
 use Rattle.plan_arrivals.proofs.CourseLaws.{arrivals_of}
 use Rattle.plan_arrivals.proofs.earliest.arrivals_by.Goals as goal
 
@@ -13,6 +10,4 @@ returns c =
     let labels = c.in_ok-_labels._labels.items in
     let front = c.in_ok-_labels.front in
     subst (AreArrivals feed query) (sym c.into_items.ensures.value)
-    (arrivals_of feed query c.positions-positions.ensures.sound labels front
-    (subst (λ (a : Asked _). IsSearched (free_task a.feed a.query) labels front) c.of.ensures c.in_ok-_labels.ensures)
-    c.into_items.ensures.front)
+    (arrivals_of feed query c.positions-positions.ensures.sound labels front c.in_ok-_labels.ensures c.into_items.ensures.front)

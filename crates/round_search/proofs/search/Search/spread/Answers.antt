@@ -1,4 +1,9 @@
-use Rattle.std.proofs.Common.{ap, subst, ◌∙◌}
+use Rattle.std.proofs.Common.{ap, sym, subst, ◌∙◌, ◌+◌}
+use Rattle.std.specs.Prelude.{OnOk}
+use Rattle.search_laws.specs.Stores.{Spreads, StepsFrom}
+use Rattle.round_search.specs.Cuts.{Lacks}
+use Rattle.round_search.specs.Finals.{HasEnds}
+use Rattle.round_search.specs.Searches.{search_of}
 use Rattle.feed_rows.specs.SoundFeed.{IsSoundFeed}
 use Rattle.round_search.specs.Bags.{in_bags}
 use Rattle.round_search.specs.Tasks.{Asked}
@@ -17,7 +22,17 @@ offer_round-requires-clause-round g c =
       sound = subst (λ (a : Asked _). IsSoundFeed a.feed) c.self.view_is c.positions.ensures.sound;
       usual = c.limit-limit.ensures.usual;
       numbers = c.requires.numbers;
+      few = c.requires.few;
       last = last;
       origins = λ number x at since. origin_is task number x c.args.count labels (in_bags c.args.bags.now) c.requires.few
           c.requires.stored at (last.last number x at since);
+      ended = subst (HasEnds task labels) (sym c.items-finals.ensures.value) c.requires.ended;
     }
+
+pub returns-clause-spreads : goal.returns-clause-spreads
+returns-clause-spreads g c =
+    let task = task_of g.T.Fare.LabelOrder.at_most g.T.Tariff.terms c.args.self.now in
+    let labels = c.args.labels.now in
+    let count = c.args.count in
+    subst (λ fs. OnOk c.offer_round.result (Spreads (search_of task) (Lacks task fs) labels (count + 1) (StepsFrom (search_of task) labels count)
+    (in_bags c.args.bags.now) (in_bags c.offer_round.new.bags))) c.items-finals.ensures.value c.offer_round.ensures.spreads

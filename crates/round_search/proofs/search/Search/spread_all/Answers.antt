@@ -3,11 +3,12 @@ use Rattle.search_laws.specs.Links.{CoversStarts}
 use Rattle.search_laws.specs.Stores.{AreClosedTo, AreStored, Spreads, StepsFrom}
 use Rattle.search_laws.proofs.StoreLaws.{closed_more, closed_weaker, few_more, fit_more, starts_more, stored_more}
 use Rattle.round_search.specs.Bags.{gathered, in_bags}
-use Rattle.round_search.specs.Cuts.{IsCut}
-use Rattle.round_search.specs.Finals.{AddsEnds, EndsBelow}
+use Rattle.round_search.specs.Cuts.{Lacks}
+use Rattle.round_search.specs.Finals.{AddsEnds, EndsBelow, HasEnds}
 use Rattle.round_search.specs.Searches.{AreLast, IsGathered, search_of, told}
 use Rattle.round_search.specs.Steps.{ways}
-use Rattle.round_search.proofs.CutLaws.{cut_still}
+use Rattle.round_search.proofs.CutLaws.{bettered_still}
+use Rattle.round_search.proofs.FoundLaws.{lacks_more}
 use Rattle.round_search.proofs.LawfulLaws.{cover_test}
 use Rattle.round_search.proofs.RoundLaws.{ending_of, gathered_rides, searched_of}
 use Rattle.round_search.proofs.SourceLaws.{last_more}
@@ -31,6 +32,11 @@ pub spread-requires-clause-numbers : goal.spread-requires-clause-numbers
 spread-requires-clause-numbers g c =
     subst (λ ls. length ls < 2 ^ 32) (sym c.deref.ensures.value) c.loop-count.invariant.are.numbers
 
+pub spread-requires-clause-ended : goal.spread-requires-clause-ended
+spread-requires-clause-ended g c =
+    let task = task_of g.T.Fare.LabelOrder.at_most g.T.Tariff.terms c.args.self.now in
+    subst (λ ls. HasEnds task ls c.loop-count.front) (sym c.deref.ensures.value) (λ triple ends. c.loop-count.invariant.are.ended.all triple ends)
+
 pub spread-requires-clause-stops : goal.spread-requires-clause-stops
 spread-requires-clause-stops g c = c.loop-count.invariant.stops
 
@@ -46,12 +52,12 @@ gather-requires-clause-ending g c =
     let front = c.loop-count.front in
     let new = in_bags c.spread.new.bags in
     let spreads =
-    subst (λ ls. Spreads s (IsCut task.terms front) ls (count + 1) (StepsFrom s ls count) (in_bags c.loop-count.bags) new) c.deref.ensures.value
+    subst (λ ls. Spreads s (Lacks task front) ls (count + 1) (StepsFrom s ls count) (in_bags c.loop-count.bags) new) c.deref.ensures.value
     c.in_ok-spread.ensures.spreads in
     ending_of task (labels ++ gathered (count + 1) new) c.limit-count-end.ensures.usual
-    (few_more s test (IsCut task.terms front) (count + 1) labels _ (in_bags c.loop-count.bags) new was.stored spreads task.query.rides
+    (few_more s test (Lacks task front) (count + 1) labels _ (in_bags c.loop-count.bags) new was.stored spreads task.query.rides
     (omega (arith, c.loop-count-test.true, c.limit-count-end.ensures.is)))
-    (fit_more s test (IsCut task.terms front) (count + 1) labels _ (in_bags c.loop-count.bags) new was.stored spreads)
+    (fit_more s test (Lacks task front) (count + 1) labels _ (in_bags c.loop-count.bags) new was.stored spreads)
 
 pub gather-requires-clause-ended : goal.gather-requires-clause-ended
 gather-requires-clause-ended g c = c.loop-count.invariant.are.ended
@@ -68,7 +74,7 @@ loop-count-preserved g c =
     let front = c.loop-count.front in
     let new = in_bags c.spread.new.bags in
     let spreads =
-    subst (λ ls. Spreads s (IsCut task.terms front) ls (count + 1) (StepsFrom s ls count) (in_bags c.loop-count.bags) new) c.deref.ensures.value
+    subst (λ ls. Spreads s (Lacks task front) ls (count + 1) (StepsFrom s ls count) (in_bags c.loop-count.bags) new) c.deref.ensures.value
     c.in_ok-spread.ensures.spreads in
     let old = in_bags c.loop-count.bags in
     let all = c.in_ok-gather.ensures in
@@ -76,13 +82,13 @@ loop-count-preserved g c =
     record {
       are = record {
         stored = subst (λ ls. AreStored s (count + 1 + 1) ls new) (sym all.value)
-            (stored_more s test (IsCut task.terms front) (count + 1) labels _ old new was.stored spreads all.apart);
+            (stored_more s test (Lacks task front) (count + 1) labels _ old new was.stored spreads all.apart);
         apart = all.apart;
-        closed = closed_weaker s (IsCut task.terms front) (IsCut task.terms c.gather.new.front) (count + 1) c.gather.new.labels.items
-            (cut_still task laws labels (gathered (count + 1) new) front c.gather.new.front was.ended
-            (subst (λ ls. AddsEnds task ls (EndsBelow task ls (length ls)) [] c.gather.new.front) all.value all.ended))
-            (subst (AreClosedTo s (IsCut task.terms front) (count + 1)) (sym all.value)
-            (closed_more s test (IsCut task.terms front) (count + 1) labels _ old new was.stored spreads count refl was.closed (λ b h. h)));
+        closed = closed_weaker s (Lacks task front) (Lacks task c.gather.new.front) (count + 1) c.gather.new.labels.items
+            (lacks_more task laws front c.gather.new.front (bettered_still task laws labels (gathered (count + 1) new) front c.gather.new.front was.ended
+            (subst (λ ls. AddsEnds task ls (EndsBelow task ls (length ls)) [] c.gather.new.front) all.value all.ended)))
+            (subst (AreClosedTo s (Lacks task front) (count + 1)) (sym all.value)
+            (closed_more s test (Lacks task front) (count + 1) labels _ old new was.stored spreads count refl was.closed (λ b h. h)));
         starts = subst (CoversStarts (ways task) (told task)) (sym all.value) (starts_more s labels _ was.starts);
         ended = all.ended;
         numbers = all.numbers;
