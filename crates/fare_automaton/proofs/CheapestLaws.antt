@@ -22,7 +22,7 @@ use Rattle.plain_laws.specs.Plain.{filled_and, joined_below}
 use Rattle.plain_laws.proofs.LesserLaws.{lesser_more}
 use Rattle.plain_laws.proofs.Laws.{All-from, Contains-map, filled_and-true, map-tells}
 use Rattle.fare_laws.specs.BareMoves.{bare}
-use Rattle.fare_laws.specs.Amounts.{spent_by}
+use Rattle.feed_rows.specs.Amounts.{spent_by}
 use Rattle.fare_laws.proofs.AmountLaws.{no_dearer-trans}
 use Rattle.fare_automaton.specs.Fewest.{AddsFewer, AreAlike, AreEnoughMoves, AreFewerMoves, HasLesserMove, IsLesserMove}
 use Rattle.fare_automaton.specs.declared.cheapest.PaidPlace.{PaidPlace}

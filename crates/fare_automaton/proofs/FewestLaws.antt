@@ -21,7 +21,7 @@ use Rattle.plain_laws.specs.Plain.{joined_below}
 use Rattle.fare_laws.specs.BareMoves.{bare}
 use Rattle.fare_laws.proofs.MoveLaws.{first_tells, first_when, next_tells, next_when}
 use Rattle.fare_automaton.specs.Changes.{times_of}
-use Rattle.fare_laws.specs.Amounts.{IsNoDearer}
+use Rattle.feed_rows.specs.Amounts.{IsNoDearer}
 use Rattle.fare_automaton.specs.Fewest.{AreEnough, AreEnoughMoves, AreFewer, HasLesser, IsLesserMove, IsLesserPick, group_of}
 use Rattle.fare_automaton.specs.Options.{ArePicks, first_made, made_at, next_made}
 use Rattle.fare_automaton.proofs.MadeLaws.{AreOf, all_true, first_of, full, full_again, made_in, next_is_bare, next_of, place_of_bare, right_made, whole_bare}

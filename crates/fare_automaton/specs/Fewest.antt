@@ -12,7 +12,7 @@ use Rattle.feed_rows.specs.FeedRows.{FeedRows}
 use Rattle.feed_rows.specs.FareChoices.{is_leg_choice}
 use Rattle.feed_rows.specs.FareSteps.{place_kind, move_after}
 use Rattle.feed_rows.specs.FareSums.{amount_of}
-use Rattle.fare_laws.specs.Amounts.{IsNoDearer, spent_by}
+use Rattle.feed_rows.specs.Amounts.{IsNoDearer, spent_by}
 
 -- the leg group of the option's rule; none where there is no such rule
 abbrev pub group_of : FeedRows → LegChoice → Option (Option LegGroupId)

@@ -5,7 +5,7 @@ ghost use Rattle.feed_rows.specs.FareChoices.{open_rows};
 ghost use Rattle.feed_rows.specs.FareFloor.{fare_floor};
 ghost use Rattle.feed_rows.specs.SoundFeed.{IsSoundFeed};
 ghost use Rattle.fare_transfer_rules.specs.BuiltTransferRules.{AreRowsBetween};
-ghost use Rattle.fare_laws.specs.Amounts.{IsLow};
+ghost use Rattle.feed_rows.specs.Amounts.{IsLow};
 ghost use Rattle.fare_automaton.specs.Compiled.{reads_of};
 ghost use Rattle.fare_automaton.specs.Terms.{terms};
 

@@ -8,7 +8,7 @@ ghost use Rattle.feed_rows.specs.declared.fares.ChangeChoice.{ChangeChoice};
 ghost use Rattle.feed_rows.specs.declared.journeys.LegFacts.{LegFacts};
 ghost use Rattle.fare_laws.specs.BareMoves.{bare};
 ghost use Rattle.fare_automaton.specs.Changes.{leg_of, times_of};
-ghost use Rattle.fare_laws.specs.Amounts.{IsLow};
+ghost use Rattle.feed_rows.specs.Amounts.{IsLow};
 ghost use Rattle.fare_automaton.specs.Fewest.{AddsFewer, AreAlike, AreEnough, AreEnoughMoves};
 ghost use Rattle.fare_automaton.specs.Cheapest.{cheaper, paid_by, paid_place};
 ghost use Rattle.fare_automaton.specs.Options.{HasPlaces, next_made};

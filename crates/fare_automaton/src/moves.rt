@@ -8,7 +8,7 @@ ghost use Rattle.feed_rows.specs.FareStates.{greatest_count, is_clock_read, coun
 ghost use Rattle.feed_rows.specs.FareSteps.{place_kind, place_charge, next_paid, next_held, leg_taken, place_taken, is_whole, asked_after, is_place_after, next_state, first_move, next_move, move_of_first, move_of_next, move_after};
 ghost use Rattle.feed_rows.specs.FareChoices.{is_leg_choice};
 ghost use Rattle.fare_automaton.specs.Changes.{leg_of};
-ghost use Rattle.fare_laws.specs.Amounts.{IsLow};
+ghost use Rattle.feed_rows.specs.Amounts.{IsLow};
 
 use crate::automaton::Automaton;
 use crate::changes::{GroupedLeg, change_after};

@@ -5,7 +5,7 @@ use Rattle.std.specs.Int.Signed.{≤ℤ_refl}
 use Rattle.std.proofs.lemmas.Int.{ints}
 use Rattle.std.proofs.lemmas.Bool.{and_parts, and_from}
 use Rattle.plain_laws.proofs.Laws.{int_le-true, le-int_le}
-use Rattle.fare_laws.specs.Amounts.{Spent, price, IsNoDearer, is_no_dearer}
+use Rattle.feed_rows.specs.Amounts.{Spent, price, IsNoDearer, is_no_dearer}
 
 pub no_dearer-tells : (a b : Spent) → is_no_dearer a b ≡ true → IsNoDearer a b
 unfolding is_no_dearer

@@ -17,7 +17,7 @@ use Rattle.feed_rows.specs.FareChoices.{chosen_leg}
 use Rattle.feed_rows.specs.FareSums.{amount_of}
 use Rattle.feed_rows.specs.FareSteps.{place_kind, place_charge, frees_first, frees_next, leg_taken, place_taken, move_of_first, move_of_next, move_after}
 use Rattle.plain_laws.proofs.Laws.{All-slice_get, chain_gives}
-use Rattle.fare_laws.specs.Amounts.{IsLow}
+use Rattle.feed_rows.specs.Amounts.{IsLow}
 use Rattle.fare_laws.specs.SmallMoves.{IsSmall}
 
 low_amount : (feed : FeedRows) → IsSoundFeed feed → (row : ProductRowId) → IsLow (amount_of feed row)

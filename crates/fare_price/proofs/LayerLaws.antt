@@ -22,7 +22,7 @@ use Rattle.feed_rows.specs.LeastPrices.{IsLeastPriceOfLegs, AreUncoveredLegs}
 use Rattle.plain_laws.specs.Plain.{when}
 use Rattle.plain_laws.proofs.Laws.{slice_get-append_left, slice_get-append_right, Contains-slice_get, slice_get-Contains, Contains-map, map-tells, list_any_tells, list_any-place, All-from}
 use Rattle.feed_laws.proofs.StandLaws.{places_of_paid}
-use Rattle.fare_laws.specs.Amounts.{spent_by}
+use Rattle.feed_rows.specs.Amounts.{spent_by}
 use Rattle.fare_laws.proofs.AmountLaws.{no_dearer-added}
 use Rattle.fare_laws.proofs.LongerLaws.{IsMoveAfter, extends_by, made_by}
 use Rattle.fare_laws.specs.SmallMoves.{IsSmall}

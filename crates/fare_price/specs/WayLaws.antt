@@ -4,7 +4,7 @@ use Rattle.std.proofs.Common.{refl, ◌∙◌}
 use Rattle.std.proofs.lemmas.Bool.{and_parts, and_from}
 use Rattle.feed_rows.specs.SameStates.{same_parts}
 use Rattle.feed_laws.proofs.SameStates.{same_parts_decides}
-use Rattle.fare_laws.specs.Amounts.{is_no_dearer}
+use Rattle.feed_rows.specs.Amounts.{is_no_dearer}
 use Rattle.fare_laws.proofs.AmountLaws.{no_dearer-holds, no_dearer-itself, no_dearer-tells, no_dearer-trans}
 use Rattle.label_order.specs.Labels.{OrderLaws}
 use Rattle.fare_price.specs.declared.ways.Way.{Way}

@@ -14,7 +14,7 @@ use Rattle.feed_rows.specs.FareStates.{held_amount, paid_amount, fare_state}
 use Rattle.feed_rows.specs.SameStates.{same_parts}
 use Rattle.feed_rows.specs.FareSteps.{move_after}
 use Rattle.plain_laws.specs.Lesser.{lesser_by}
-use Rattle.fare_laws.specs.Amounts.{Spent, IsNoDearer, is_no_dearer, price}
+use Rattle.feed_rows.specs.Amounts.{Spent, IsNoDearer, is_no_dearer, price}
 use Rattle.label_bag.specs.Bags.{covers}
 use Rattle.fare_price.specs.declared.ways.Way.{Way}
 

@@ -31,7 +31,7 @@ impl Way {
     }
 
     /// Whether it leads to the state of the other, has paid no more and costs no more.
-    #[tactic(auto, unfolding(crate::specs::Ways::is_as_good, fare_laws::specs::Amounts::is_no_dearer))]
+    #[tactic(auto, unfolding(crate::specs::Ways::is_as_good, feed_rows::specs::Amounts::is_no_dearer))]
     fn is_as_good(&self, other: &Way) -> bool
         ensures { result ≡ is_as_good self.now other.now }
     {

@@ -218,7 +218,7 @@ abbrev two_labels : List Label
 two_labels = start_label facts_0 ∷ label facts_1 0 0 bus_ticket ∷ []
 
 itself : (f : LabelFacts) → Covers f f
-itself f = record { stop = refl; arrival = omega (arith, ints); rides = omega arith; paid = omega (arith, ints); price = omega (arith, ints); state = refl }
+itself f = record { stop = refl; arrival = omega (arith, ints); rides = omega arith; spent = record { paid = omega (arith, ints); price = omega (arith, ints) }; state = refl }
 
 -- two labels cover all
 covered : (bag : ℕ → StopId → List ℕ) (finals : List Final) (f : LabelFacts) → HasEither f → IsCovered (table two_labels bag finals) f

@@ -179,10 +179,10 @@ abbrev earlier : ℤ → LabelFacts
 earlier held = facts 1 29399 1 (pos 0) held (Some (state (Some 0) 0 None None true))
 
 covers_itself : Covers facts_1 facts_1
-covers_itself = record { stop = refl; arrival = omega (arith, ints); rides = omega arith; paid = omega (arith, ints); price = omega (arith, ints); state = refl }
+covers_itself = record { stop = refl; arrival = omega (arith, ints); rides = omega arith; spent = record { paid = omega (arith, ints); price = omega (arith, ints) }; state = refl }
 
 covers_later : Covers (earlier (pos 250)) facts_1
-covers_later = record { stop = refl; arrival = omega (arith, ints); rides = omega arith; paid = omega (arith, ints); price = omega (arith, ints); state = refl }
+covers_later = record { stop = refl; arrival = omega (arith, ints); rides = omega arith; spent = record { paid = omega (arith, ints); price = omega (arith, ints) }; state = refl }
 
 one_is_two : Same 0 1 → ⊥
 one_is_two e = absurd (omega (arith, e))
@@ -192,7 +192,7 @@ two_is_one e = absurd (omega (arith, e))
 
 excess_checks : ExcessChecks
 excess_checks = record {
-  apart = apart_pair facts_1 (earlier (pos 251)) (λ c. let no = c.arrival in absurd (omega (arith, ints, no))) (λ c. let no = c.price in absurd (omega (arith, ints, no)));
+  apart = apart_pair facts_1 (earlier (pos 251)) (λ c. let no = c.arrival in absurd (omega (arith, ints, no))) (λ c. let no = c.spent.price in absurd (omega (arith, ints, no)));
   alone = λ m n a b is is' differ c. single m n a b is is' differ;
   twice = λ w. w 0 1 (start_label facts_1) (start_label facts_1) refl refl one_is_two covers_itself;
   before = λ w. w 0 1 (start_label (earlier (pos 250))) (start_label facts_1) refl refl one_is_two covers_later;
@@ -230,7 +230,7 @@ cover_of_journeys = record {
     start_label facts_0,
     omega arith,
     refl,
-    record { stop = refl; arrival = omega (arith, ints); rides = omega arith; paid = omega (arith, ints); price = omega (arith, ints); state = refl },
+    record { stop = refl; arrival = omega (arith, ints); rides = omega arith; spent = record { paid = omega (arith, ints); price = omega (arith, ints) }; state = refl },
   );
   lacking = λ c. lacks (c part_1 facts_1 (partial-by-test _ _ _ refl) refl);
   dearer = λ b.

@@ -184,18 +184,18 @@ count_of state = option_map_or (λ s. s.count) state 9
 
 cover_checks : CoverChecks
 cover_checks = record {
-  itself = record { stop = refl; arrival = omega (arith, ints); rides = omega arith; paid = omega (arith, ints); price = omega (arith, ints); state = refl };
+  itself = record { stop = refl; arrival = omega (arith, ints); rides = omega arith; spent = record { paid = omega (arith, ints); price = omega (arith, ints) }; state = refl };
   better = (
-    record { stop = refl; arrival = omega (arith, ints); rides = omega arith; paid = omega (arith, ints); price = omega (arith, ints); state = refl },
-    record { stop = refl; arrival = omega (arith, ints); rides = omega arith; paid = omega (arith, ints); price = omega (arith, ints); state = refl },
-    record { stop = refl; arrival = omega (arith, ints); rides = omega arith; paid = omega (arith, ints); price = omega (arith, ints); state = refl },
-    record { stop = refl; arrival = omega (arith, ints); rides = omega arith; paid = omega (arith, ints); price = omega (arith, ints); state = refl },
-    record { stop = refl; arrival = omega (arith, ints); rides = omega arith; paid = omega (arith, ints); price = omega (arith, ints); state = refl },
+    record { stop = refl; arrival = omega (arith, ints); rides = omega arith; spent = record { paid = omega (arith, ints); price = omega (arith, ints) }; state = refl },
+    record { stop = refl; arrival = omega (arith, ints); rides = omega arith; spent = record { paid = omega (arith, ints); price = omega (arith, ints) }; state = refl },
+    record { stop = refl; arrival = omega (arith, ints); rides = omega arith; spent = record { paid = omega (arith, ints); price = omega (arith, ints) }; state = refl },
+    record { stop = refl; arrival = omega (arith, ints); rides = omega arith; spent = record { paid = omega (arith, ints); price = omega (arith, ints) }; state = refl },
+    record { stop = refl; arrival = omega (arith, ints); rides = omega arith; spent = record { paid = omega (arith, ints); price = omega (arith, ints) }; state = refl },
   );
   later = λ c. let no = c.arrival in absurd (omega (arith, ints, no));
   more_rides = λ c. let no = c.rides in absurd (omega (arith, no));
-  paid_more = λ c. let no = c.paid in absurd (omega (arith, ints, no));
-  dearer = λ c. let no = c.price in absurd (omega (arith, ints, no));
+  paid_more = λ c. let no = c.spent.paid in absurd (omega (arith, ints, no));
+  dearer = λ c. let no = c.spent.price in absurd (omega (arith, ints, no));
   other_stop = λ c. let no : 2 ≡ 1 = ap (λ (s : StopId). s.0) c.stop in absurd (omega arith);
   other_state = λ c. let no : 1 ≡ 0 = ap count_of c.state in absurd (omega arith);
   no_state = λ c. let no : 9 ≡ 0 = ap count_of c.state in absurd (omega arith);

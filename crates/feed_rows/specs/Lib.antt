@@ -25,6 +25,7 @@ pub mod FareExtensions
 pub mod ParetoTriples
 pub mod JourneyEntries
 pub mod PartialJourneys
+pub mod Amounts
 pub mod LabelCover
 pub mod Completions
 pub mod FareFloor

@@ -14,7 +14,7 @@ use Rattle.feed_rows.specs.Legs.{leg_facts}
 use Rattle.feed_rows.specs.ParetoTriples.{at_most}
 use Rattle.feed_rows.specs.PartialJourneys.{LabelFacts}
 use Rattle.feed_rows.specs.SoundFeed.{IsSoundFeed}
-use Rattle.fare_laws.specs.Amounts.{is_no_dearer, spent_by}
+use Rattle.feed_rows.specs.Amounts.{is_no_dearer, spent_by}
 use Rattle.fare_laws.proofs.AmountLaws.{no_dearer-added, no_dearer-tells}
 use Rattle.fare_automaton.specs.Fewest.{IsLesserMove}
 use Rattle.feed_laws.proofs.ParetoLaws.{at_most-refl, at_most-trans}
@@ -185,13 +185,11 @@ lesser_of m n is =
 -- and what is no dearer leads to facts that cover where that leads
 lesser_covers : (a : LabelFacts) (facts : RideFacts) (m n : Move) → IsLesserMove m n → Covers (facts_after a facts m) (facts_after a facts n)
 lesser_covers a facts m n less =
-    let spent = no_dearer-added a.paid (spent_by m) (spent_by n) less.cost in
     record {
       stop = refl;
       arrival = as_much facts.arrival.0;
       rides = omega arith;
-      paid = spent.paid;
-      price = spent.price;
+      spent = no_dearer-added a.paid (spent_by m) (spent_by n) less.cost;
       state = ap Some less.state;
     }
 

@@ -197,10 +197,12 @@ module _ (task : Searched) (sound : IsSoundFeed task.feed) (rides : List CaughtR
         stop = refl;
         arrival = itself caught.facts.arrival.0;
         rides = omega (arith, counts);
-        paid = no_more other.price.0 own.price.0 x.paid.0 x.held.0 by.0.paid.0 cheaper at.price alike.paid;
-        price =
-            with_held other.price.0 own.price.0 x.paid.0 x.held.0 by.0.paid.0 first.0.held.0 by.0.held.0 cheaper at.price alike.paid
-            (ap (λ (m : Money). m.0) alike.holds);
+        spent = record {
+          paid = no_more other.price.0 own.price.0 x.paid.0 x.held.0 by.0.paid.0 cheaper at.price alike.paid;
+          price =
+              with_held other.price.0 own.price.0 x.paid.0 x.held.0 by.0.paid.0 first.0.held.0 by.0.held.0 cheaper at.price alike.paid
+              (ap (λ (m : Money). m.0) alike.holds);
+        };
         state = ap Some (sym alike.state);
       } in
       done_below task finals bags a b (ne_eqb (count + 1) 0 (λ e. omega (arith, e)))

@@ -4,7 +4,7 @@ use Rattle.feed_rows.specs.declared.journeys.LegFacts.{LegFacts}
 use Rattle.feed_rows.specs.declared.journeys.Query.{Query}
 use Rattle.feed_rows.specs.declared.states.Move.{Move}
 use Rattle.feed_rows.specs.FeedRows.{FeedRows}
-use Rattle.fare_laws.specs.Amounts.{is_no_dearer, spent_by}
+use Rattle.feed_rows.specs.Amounts.{is_no_dearer, spent_by}
 use Rattle.fare_automaton.specs.Fewest.{AreEnoughMoves}
 use Rattle.fare_automaton.specs.Known.{KnownPicks}
 use Rattle.fare_automaton.specs.Terms.{terms}

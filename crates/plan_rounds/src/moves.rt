@@ -6,7 +6,7 @@ use feed_rows::Move;
 use round_labels::same_parts;
 
 /// Whether the one leads to the same state of fares as the other, and neither pays more nor costs more.
-#[tactic(auto, unfolding(crate::specs::Moves::betters, fare_laws::specs::Amounts::is_no_dearer))]
+#[tactic(auto, unfolding(crate::specs::Moves::betters, feed_rows::specs::Amounts::is_no_dearer))]
 fn betters(a: &Move, b: &Move) -> bool
     ensures { result ≡ betters a.now b.now }
 {

@@ -152,8 +152,7 @@ good_covers s t a b same good =
       stop = ap (λ (c : LabelClass). c.stop) same;
       arrival = is.arrival;
       rides = is.rides;
-      paid = is.spent.paid;
-      price = is.spent.price;
+      spent = is.spent;
       state = ap (λ (c : LabelClass). c.state) same;
     })
 
@@ -162,7 +161,7 @@ pub covers_good : (s t : Option Move) (a b : KeptLabel) → covers (whole_by s a
     is_as_good a b ≡ true
 covers_good s t a b h =
     let is = covers-tells (whole_by s a) (whole_by t b) h in
-    as_good-holds a b (record { arrival = is.arrival; rides = is.rides; spent = record { paid = is.paid; price = is.price } })
+    as_good-holds a b (record { arrival = is.arrival; rides = is.rides; spent = is.spent })
 
 -- the number of a move makes none better
 pub uncovered_numbered : (members : List KeptLabel) (kept : KeptLabel) (n : ℕ) →

@@ -12,7 +12,7 @@ use Rattle.feed_rows.specs.LabelCover.{Covers}
 use Rattle.feed_laws.proofs.SameStates.{same_parts_decides}
 use Rattle.plain_laws.proofs.Decisions.{option_eq_decides}
 use Rattle.plain_laws.proofs.Laws.{int_le-true, le-int_le}
-use Rattle.fare_laws.specs.Amounts.{IsNoDearer, is_no_dearer}
+use Rattle.feed_rows.specs.Amounts.{IsNoDearer, is_no_dearer}
 use Rattle.fare_laws.proofs.AmountLaws.{no_dearer-holds, no_dearer-itself, no_dearer-tells, no_dearer-trans}
 use Rattle.round_laws.proofs.CoverLaws.{covers-trans}
 use Rattle.round_laws.proofs.IntLaws.{as_much, no_more}
@@ -69,15 +69,13 @@ unfolding covers is_no_later
 covers-tells a b h =
     let state = and_parts _ (same_state a.state b.state) h in
     let both = and_parts (is_no_later a b) (is_no_dearer (spent_of a) (spent_of b)) state.0 in
-    let spent = no_dearer-tells (spent_of a) (spent_of b) both.1 in
     let rides = and_parts _ (nat_le a.rides b.rides) both.0 in
     let when = and_parts _ (int_le a.arrival.0 b.arrival.0) rides.0 in
     record {
       stop = ap (λ (n : ℕ). record { 0 = n }) (eqb-true a.stop.0 b.stop.0 when.0);
       arrival = int_le-true _ _ when.1;
       rides = few_true _ _ rides.1;
-      paid = spent.paid;
-      price = spent.price;
+      spent = no_dearer-tells (spent_of a) (spent_of b) both.1;
       state = (same_state_decides a.state b.state).0 state.1;
     }
 
@@ -90,7 +88,7 @@ covers-holds a b c =
     (and_from _ _
     (and_from _ _ (eq-eqb a.stop.0 b.stop.0 (ap (λ (s : StopId). s.0) c.stop)) (le-int_le _ _ c.arrival))
     (true_few _ _ c.rides))
-    (no_dearer-holds (spent_of a) (spent_of b) (record { paid = c.paid; price = c.price })))
+    (no_dearer-holds (spent_of a) (spent_of b) c.spent))
     ((same_state_decides a.state b.state).1 c.state)
 
 pub cover_laws : OrderLaws covers
@@ -99,8 +97,7 @@ cover_laws = record {
     stop = refl;
     arrival = as_much _;
     rides = omega arith;
-    paid = as_much _;
-    price = as_much _;
+    spent = no_dearer-itself (spent_of a);
     state = refl;
   });
   transitive = λ a b c p q.

@@ -6,7 +6,7 @@ use Rattle.transit_base.specs.declared.numbers.StopId.{StopId}
 use Rattle.feed_rows.specs.declared.journeys.Ride.{Ride}
 use Rattle.feed_rows.specs.declared.states.FareState.{FareState}
 use Rattle.feed_rows.specs.declared.states.Move.{Move}
-use Rattle.fare_laws.specs.Amounts.{Spent, is_no_dearer}
+use Rattle.feed_rows.specs.Amounts.{Spent, is_no_dearer}
 use Rattle.round_labels.specs.declared.kept_label.KeptLabel.{KeptLabel}
 use Rattle.round_labels.specs.declared.kept_label.KeptRide.{KeptRide}
 use Rattle.round_labels.specs.declared.label.Label.{Label}

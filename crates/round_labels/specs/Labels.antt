@@ -14,7 +14,7 @@ use Rattle.feed_rows.specs.PartialJourneys.{LabelFacts}
 use Rattle.feed_rows.specs.RoundTables.{Label as Kept}
 pub use Rattle.feed_rows.specs.SameStates.{same_parts}
 use Rattle.feed_rows.specs.JourneyStands.{Stand}
-use Rattle.fare_laws.specs.Amounts.{Spent, is_no_dearer}
+use Rattle.feed_rows.specs.Amounts.{Spent, is_no_dearer}
 use Rattle.round_laws.specs.LabelSteps.{stand_of_facts}
 use Rattle.round_labels.specs.declared.label.Label.{Label}
 use Rattle.round_labels.specs.declared.label_class.LabelClass.{LabelClass}

@@ -1,6 +1,6 @@
 //! Labels as a search keeps them: in fewer bytes.
 ghost use Rattle.std.specs.Prelude.{◌≡◌, ◌+ℤ◌, ◌≤◌, ◌^◌, nat_abs};
-ghost use Rattle.fare_laws.specs.Amounts.{is_no_dearer};
+ghost use Rattle.feed_rows.specs.Amounts.{is_no_dearer};
 ghost use Rattle.round_labels.specs.Kept.{IsKeepable, IsNarrow, comes_no_later, is_as_good, label_kept, ride_kept, spent_kept, state_after, whole_by};
 
 use crate::label::Label;
@@ -224,7 +224,7 @@ fn comes_no_later(a: &KeptLabel, b: &KeptLabel) -> bool
 
 /// Whether the one has neither paid more nor costs more.
 #[inline(always)]
-#[tactic(auto, unfolding(fare_laws::specs::Amounts::is_no_dearer))]
+#[tactic(auto, unfolding(feed_rows::specs::Amounts::is_no_dearer))]
 fn is_no_dearer(a: &KeptLabel, b: &KeptLabel) -> bool
     ensures { result ≡ is_no_dearer (spent_kept a.now) (spent_kept b.now) }
 {

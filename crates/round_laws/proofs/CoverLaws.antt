@@ -16,10 +16,11 @@ use Rattle.feed_rows.specs.FareSteps.{move_after}
 use Rattle.feed_rows.specs.FeedRows.{FeedRows}
 use Rattle.feed_rows.specs.Journeys.{is_caught}
 use Rattle.feed_rows.specs.JourneyStands.{Stand, way_to, way_out, end_arrival}
-use Rattle.feed_rows.specs.LabelCover.{Covers, price_so_far}
+use Rattle.feed_rows.specs.LabelCover.{Covers, price_so_far, spent_so_far}
 use Rattle.feed_rows.specs.Legs.{leg_facts}
 use Rattle.feed_rows.specs.ParetoTriples.{at_most}
 use Rattle.feed_rows.specs.PartialJourneys.{LabelFacts}
+use Rattle.fare_laws.proofs.AmountLaws.{no_dearer-trans}
 use Rattle.fare_laws.proofs.LeadLaws.{leads_too}
 use Rattle.search_laws.specs.Ways.{AreLawful, EndsNoWorse, IsFollowed}
 use Rattle.round_laws.specs.LabelSteps.{IsStated, stand_of_facts, facts_after, ways, IsCaughtRide, IsLabelStep, IsLabelEnd}
@@ -32,8 +33,7 @@ covers-trans a b c p q = record {
   stop = p.stop ∙ q.stop;
   arrival = no_more a.arrival b.arrival c.arrival p.arrival q.arrival;
   rides = omega (arith, p.rides, q.rides);
-  paid = no_more a.paid b.paid c.paid p.paid q.paid;
-  price = no_more (price_so_far a) (price_so_far b) (price_so_far c) p.price q.price;
+  spent = no_dearer-trans (spent_so_far a) (spent_so_far b) (spent_so_far c) p.spent q.spent;
   state = p.state ∙ q.state;
 }
 
@@ -91,8 +91,10 @@ covers_after a a' facts move move' few state held le = record {
   stop = refl;
   arrival = as_much facts.arrival.0;
   rides = omega (arith, few);
-  paid = le;
-  price = with_held (a.paid +ℤ move.paid.0) (a'.paid +ℤ move'.paid.0) move.held.0 move'.held.0 (ap (λ h. h.0) held) le;
+  spent = record {
+    paid = le;
+    price = with_held (a.paid +ℤ move.paid.0) (a'.paid +ℤ move'.paid.0) move.held.0 move'.held.0 (ap (λ h. h.0) held) le;
+  };
   state = ap Some state;
 }
   where
@@ -107,7 +109,7 @@ follow feed query a a' ride move' b' stated stated' covers s =
     let pays =
     subst (λ (state : Option FareState). move_after feed query.buyer state a'.held leg move' ≡ Some move')
     (sym covers.state) s.pays in
-    let m = leads_too feed query.buyer a.state a.paid a.held a'.paid a'.held leg move' covers.paid covers.price pays in
+    let m = leads_too feed query.buyer a.state a.paid a.held a'.paid a'.held leg move' covers.spent.paid covers.spent.price pays in
     record {
       move = m.move;
       b = facts_after a s.facts m.move;
@@ -167,7 +169,7 @@ ends_no_worse feed query a a' last worse stated stated' covers e =
           };
           below =
               end_below a (a.arrival +ℤ pos s) worse later (omega (arith, covers.rides, e.rides))
-              (price (price_so_far a) (price_so_far a') worse.price.0 covers.price e.price);
+              (price (price_so_far a) (price_so_far a') worse.price.0 covers.spent.price e.price);
         }
 
 -- ---- the laws of a search

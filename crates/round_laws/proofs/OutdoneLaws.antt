@@ -47,7 +47,7 @@ floor_after floor limit m n below le = by ((limit - m) - (limit - n)) (omega (ar
 
 -- what is covered costs no less
 least_covered : (a b : LabelFacts) → Covers a b → least_so_far a ≤ℤ least_so_far b
-least_covered a b c = by a.paid b.paid (price_so_far a) (price_so_far b) c.paid c.price
+least_covered a b c = by a.paid b.paid (price_so_far a) (price_so_far b) c.spent.paid c.spent.price
   where
     by : (x x' y y' : ℤ) → x ≤ℤ x' → y ≤ℤ y' → int_min x y ≤ℤ int_min x' y'
     by x x' y y' p q = grind (arith, ints, p, q)

@@ -32,7 +32,7 @@ use std::alloc::{AllocError, Global};
 use std::marker::Model;
 use transit_base::StopId;
 
-/// A query over a timetable, and what its search asks of fares. Contracts see the tariff, the feed and the query.
+/// A query over a timetable, and what its search asks of fares. Contracts see the tariff, the feed, the query and the aim.
 #[derive(Drop)]
 pub struct Search<'s, 'l, T: Tariff> {
     alloc: Global,

@@ -88,8 +88,8 @@ pub trait Tariff {
         requires few { label.now.rides + behind < most_rides }
         ensures { (asked : Asked Self) → asked.tariff ≡ self.now → Serves asked → IsWithinWindow asked.query label.now.arrival.0 → CostOn (task_of Self.Fare.at_most terms asked) (IsLateIf (terms self.now) (facts_of label.now) late) behind (facts_of label.now) result };
 
-    /// A moment such that rides which depart later, and no later than the last one, are late after the label; none where the tariff
-    /// tells no rides apart by that.
+    /// A moment such that rides which depart behind it, and no later than `last`, are late after the label; none where the tariff tells
+    /// no rides apart by that. Rides before `first` aren't asked about.
     fn late_since(
         &self,
         label: &Label<Self::Fare, Self::Move>,

@@ -5,7 +5,7 @@
 //! name, so they are numbered by the first appearance of the name.
 
 /// The number of a stop: its data row in `stops.txt`, counted from 0.
-#[derive(Clone, Copy, PartialEq, Eq)]
+#[derive(Clone, Copy, PartialEq, Eq, Hash)]
 pub struct StopId(pub u32);
 
 /// The number of a route: its data row in `routes.txt`, counted from 0.
