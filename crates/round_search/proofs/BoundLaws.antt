@@ -19,14 +19,15 @@ use Rattle.plan_rides.specs.Cutoffs.{cutoff_by, is_early, is_span, is_span_any}
 use Rattle.plan_rides.specs.InTime.{IsWithinWindow, deadline}
 use Rattle.plan_rides.specs.Spans.{AreSpans, SpanLists, no_spans, stands_of}
 use Rattle.search_laws.specs.Ways.{LeadsBy}
-use Rattle.round_search.specs.declared.finals.Final.{Final}
-use Rattle.round_search.specs.declared.tariff.LeastPrice.{LeastPrice}
-use Rattle.round_search.specs.Bounds.{AreFoundBy, AreLate, AreUntils, CostBy, CostOn, DepartsAfter, IsAnyRide, IsCutAfter, IsDearer, IsLateIf, IsFair, IsFoundUntil, IsUntil, IsUntilBy, IsUntilFirst, LeadsOn}
+use Rattle.round_terms.specs.declared.finals.Final.{Final}
+use Rattle.round_terms.specs.declared.tariff.LeastPrice.{LeastPrice}
+use Rattle.round_terms.specs.Costs.{AreLate, CostOn, IsDearer, IsLateIf, LeadsOn}
+use Rattle.round_search.specs.Bounds.{AreFoundBy, AreUntils, CostBy, DepartsAfter, IsAnyRide, IsCutAfter, IsFair, IsFoundUntil, IsUntil, IsUntilBy, IsUntilFirst}
 use Rattle.round_search.specs.Cuts.{IsFoundBy, Lacks, has_ahead, is_cut, is_within}
 use Rattle.round_search.specs.Searches.{StepsTo}
-use Rattle.round_search.specs.Steps.{ways}
-use Rattle.round_search.specs.Tasks.{Asked, HasLaws, Task, task_of}
-use Rattle.round_search.specs.Terms.{Facts, Terms}
+use Rattle.round_terms.specs.Steps.{ways}
+use Rattle.round_terms.specs.Tasks.{Asked, HasLaws, Task, task_of}
+use Rattle.round_terms.specs.Terms.{Facts, Terms}
 use Rattle.round_search.proofs.CutLaws.{cuts}
 use Rattle.round_search.proofs.FoundLaws.{HasFoundAhead, ahead_passes, ahead_tells, found_ahead, found_up, futile_lacks}
 use Rattle.round_search.proofs.SpanLaws.{leads_early, leads_few, leads_in_time, overdue}
@@ -65,11 +66,12 @@ pred_suc (suc n) nz = omega arith
 -- what a tariff promises of prices holds of the search that it serves
 pub costs_of : {S F M : Type 0} (at_most : F → F → Bool) (terms : S → Terms F M) (Serves : Asked S → Type 0) (tariff : S) (me : Asked S)
     (a : Facts F) (late : Bool) (n : ℕ) (price : Option LeastPrice) → me.tariff ≡ tariff →
-    ((asked : Asked S) → asked.tariff ≡ tariff → Serves asked → IsWithinWindow asked.query a.arrival →
+    ((asked : Asked S) → asked.tariff ≡ tariff → Serves asked → IsWithinWindow asked.query a.arrival → a.rides + n < asked.query.rides →
     CostOn (task_of at_most terms asked) (IsLateIf (terms tariff) a late) n a price) →
-    Serves me → IsWithinWindow me.query a.arrival → CostOn (task_of at_most terms me) (IsLateIf (terms me.tariff) a late) n a price
-costs_of {S} at_most terms Serves tariff me a late n price own clause serves within =
-    subst (λ (s : S). CostOn (task_of at_most terms me) (IsLateIf (terms s) a late) n a price) (sym own) (clause me own serves within)
+    Serves me → IsWithinWindow me.query a.arrival → a.rides + n < me.query.rides →
+    CostOn (task_of at_most terms me) (IsLateIf (terms me.tariff) a late) n a price
+costs_of {S} at_most terms Serves tariff me a late n price own clause serves within few =
+    subst (λ (s : S). CostOn (task_of at_most terms me) (IsLateIf (terms s) a late) n a price) (sym own) (clause me own serves within few)
 
 -- no triple is dearer than no price
 pub none_dearer : (price : Option LeastPrice) (triple : Triple) → price ≡ None → IsDearer price triple → ⊥

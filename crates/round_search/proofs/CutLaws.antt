@@ -1,15 +1,13 @@
 -- What cuts facts off cuts off all that they lead to, and what ends of labels better is bettered by ends of more.
-use Rattle.std.proofs.Common.{◌≡◌, sym, ◌∙◌, subst, ℕ, zero, suc, Bool, true, List, [], ◌++◌, length, arith, ℤ, pos, ◌+ℤ◌, ◌≤ℤ◌}
+use Rattle.std.proofs.Common.{◌≡◌, sym, ◌∙◌, subst, ℕ, zero, suc, true, List, [], ◌++◌, length, arith, ℤ, pos, ◌+ℤ◌, ◌≤ℤ◌}
 use Rattle.std.specs.Prelude.{Option, Some, None, option_map, int_le}
 use Rattle.std.proofs.lemmas.Int.{ints}
 use Rattle.std.proofs.lemmas.List.Elements.{All-contains, All-nil}
 use Rattle.std.proofs.lemmas.Option.{same_Some, none-some, slice_get_within}
 use Rattle.transit_base.specs.declared.numbers.StopId.{StopId}
 use Rattle.feed_rows.specs.declared.fares.Triple.{Triple}
-use Rattle.feed_rows.specs.declared.journeys.Query.{Query}
 use Rattle.feed_rows.specs.declared.journeys.Ride.{Ride}
 use Rattle.feed_rows.specs.declared.journeys.RideFacts.{RideFacts}
-use Rattle.feed_rows.specs.FeedRows.{FeedRows}
 use Rattle.feed_rows.specs.JourneyStands.{way_to, way_out, end_arrival}
 use Rattle.transit_base.specs.Limits.{most_time}
 use Rattle.feed_rows.specs.ParetoTriples.{at_most as is_no_worse}
@@ -17,19 +15,18 @@ use Rattle.feed_rows.specs.SoundFeed.{IsSoundFeed}
 use Rattle.feed_laws.proofs.ParetoLaws.{at_most-trans}
 use Rattle.feed_laws.proofs.RideLaws.{ride_facts_timed}
 use Rattle.feed_laws.proofs.SoundTrips.{sound_trip}
-use Rattle.label_order.specs.Labels.{OrderLaws}
 use Rattle.plain_laws.proofs.Laws.{filled_and-true, int_le-true, list_any_tells, slice_get-append_left}
 use Rattle.search_laws.specs.Cuts.{AreCuts}
 use Rattle.search_laws.specs.Ways.{LeadsBy}
-use Rattle.round_search.specs.declared.finals.Final.{Final}
-use Rattle.round_search.specs.declared.label.Label.{Label}
+use Rattle.round_terms.specs.declared.finals.Final.{Final}
+use Rattle.round_terms.specs.declared.label.Label.{Label}
 use Rattle.round_search.specs.Cuts.{Cuts, least_end}
 use Rattle.round_search.specs.Finals.{AddsEnds, EndsBelow, IsFinal, is_bettered}
-use Rattle.round_search.specs.Steps.{IsCaughtFrom, IsEnd, IsStep, stand_of_facts, ways}
-use Rattle.round_search.specs.Terms.{Covers, Facts, facts_after}
+use Rattle.round_terms.specs.Steps.{IsCaughtFrom, IsEnd, IsStep, stand_of_facts, ways}
+use Rattle.round_terms.specs.Terms.{Covers, Facts, facts_after}
 use Rattle.round_search.proofs.FinalLaws.{bettered_up}
 use Rattle.round_search.proofs.LawfulLaws.{parts_below}
-use Rattle.round_search.specs.Tasks.{HasLaws, Task}
+use Rattle.round_terms.specs.Tasks.{HasLaws, Task}
 
 module _ {F M : Type 0} (task : Task F M) (laws : HasLaws task) where
   -- ---- what covers
@@ -79,7 +76,7 @@ module _ {F M : Type 0} (task : Task F M) (laws : HasLaws task) where
     least_after a b ride move step =
         subst (λ (f : Facts F). is_no_worse (least_end task.terms a) (least_end task.terms f) ≡ true) (sym step.next)
         (parts_below (least_end task.terms a) (least_end task.terms (facts_after task.terms a step.facts move)) (later_ride a ride step.facts step.rides) (omega arith)
-        (laws.fares.least_stays a step.facts move step.fare step.pays))
+        (laws.fares.least_stays a step.facts move step.rides.few step.fare step.pays))
 
     least_ends : (a : Facts F) (last : StopId) (triple : Triple) → IsEnd task a last triple → is_no_worse (least_end task.terms a) triple ≡ true
     unfolding end_arrival

@@ -1,5 +1,5 @@
 -- What is found, by finals or by triples that are given; and what a search may lack for it.
-use Rattle.std.proofs.Common.{◌≡◌, refl, sym, subst, ℕ, Bool, true, false, ◌||◌, ◌⊎◌, inl, inr, List, [], ◌∷◌, length, ◌+◌, arith, ℤ, ◌≤◌, ◌≤ℤ◌}
+use Rattle.std.proofs.Common.{◌≡◌, refl, sym, subst, ℕ, Bool, true, false, ◌||◌, inl, inr, List, [], ◌∷◌, ◌+◌, arith, ℤ, ◌≤◌, ◌≤ℤ◌}
 use Rattle.std.specs.Prelude.{Contains, nat_le}
 use Rattle.std.specs.List.{list_any}
 use Rattle.std.proofs.lemmas.Bool.{and_parts, both_ways}
@@ -17,15 +17,15 @@ use Rattle.search_laws.specs.Cuts.{IsFutile, MayLack}
 use Rattle.search_laws.specs.Stores.{IsUncut}
 use Rattle.search_laws.specs.Ways.{IsUpward}
 use Rattle.search_laws.proofs.CutLaws.{lack_after, lack_below, lack_futile, lack_more}
-use Rattle.round_search.specs.declared.finals.Final.{Final}
-use Rattle.round_search.specs.declared.label.Label.{Label}
+use Rattle.round_terms.specs.declared.finals.Final.{Final}
+use Rattle.round_terms.specs.declared.label.Label.{Label}
 use Rattle.round_search.specs.Cuts.{Cuts, IsFoundBy, Lacks, has_ahead, is_ahead, is_cut, is_given, is_within, least_end}
 use Rattle.round_search.specs.Finals.{HasEnds, is_bettered}
-use Rattle.round_search.specs.Labels.{facts_of}
+use Rattle.round_terms.specs.Labels.{facts_of}
 use Rattle.round_search.specs.Searches.{search_of}
-use Rattle.round_search.specs.Steps.{IsStep, ways}
-use Rattle.round_search.specs.Tasks.{HasLaws, Task}
-use Rattle.round_search.specs.Terms.{Covers, Facts, facts_after}
+use Rattle.round_terms.specs.Steps.{IsStep, ways}
+use Rattle.round_terms.specs.Tasks.{HasLaws, Task}
+use Rattle.round_terms.specs.Terms.{Covers, Facts, facts_after}
 use Rattle.round_search.proofs.CutLaws.{cuts}
 use Rattle.round_search.proofs.FinalLaws.{bettered_up}
 use Rattle.round_search.proofs.LawfulLaws.{parts_below, ways_lawful}
@@ -177,7 +177,7 @@ module _ {F M : Type 0} (task : Task F M) (laws : HasLaws task) where
         let ahead = found_ahead task finals step.facts.arrival.0 (a.rides + 1) (task.terms.least a) is in
         let tells = ahead_tells step.facts.arrival.0 (a.rides + 1) (task.terms.least a) ahead.triple ahead.ahead in
         let next = facts_after task.terms a step.facts move in
-        let least = laws.fares.least_stays a step.facts move step.fare step.pays in
+        let least = laws.fares.least_stays a step.facts move step.rides.few step.fare step.pays in
         subst (Lacks task finals) (sym step.next)
         (ahead_lacks ahead.triple next ahead.found
         (ahead_passes next.arrival next.rides (task.terms.least next) ahead.triple (record {

@@ -1,36 +1,31 @@
 -- What a search holds after each round, and after all.
-use Rattle.std.proofs.Common.{◌≡◌, ℕ, ◌+◌, ◌≤◌, Bool, true, List, inl, arith}
+use Rattle.std.proofs.Common.{◌≡◌, ℕ, ◌+◌, ◌≤◌, List, inl, arith}
 use Rattle.std.specs.Prelude.{All, Contains, ◌==◌}
 use Rattle.std.proofs.lemmas.Bool.{eqb-true}
 use Rattle.std.proofs.lemmas.List.Elements.{All-nil}
 use Rattle.std.proofs.lemmas.Option.{slice_get_within}
 use Rattle.transit_base.specs.declared.numbers.StopId.{StopId}
 use Rattle.feed_rows.specs.declared.fares.Triple.{Triple}
-use Rattle.feed_rows.specs.declared.journeys.Query.{Query}
-use Rattle.feed_rows.specs.FeedRows.{FeedRows}
 use Rattle.feed_rows.specs.SoundFeed.{IsSoundFeed}
-use Rattle.feed_laws.proofs.ParetoLaws.{at_most-refl}
-use Rattle.label_order.specs.Labels.{OrderLaws}
 use Rattle.plain_laws.proofs.Laws.{All-from, All-slice_get, Contains-filter_passes, slice_get-Contains}
 use Rattle.plan_rides.specs.InTime.{IsUsualQuery}
 use Rattle.search_laws.specs.Cuts.{MayLack}
 use Rattle.search_laws.specs.Stores.{AreWhole}
 use Rattle.search_laws.proofs.CoverLaws.{each_found}
 use Rattle.search_laws.proofs.StoreLaws.{whole_of, whole_weaker}
-use Rattle.round_search.specs.declared.finals.Final.{Final}
-use Rattle.round_search.specs.declared.label.Label.{Label}
+use Rattle.round_terms.specs.declared.finals.Final.{Final}
+use Rattle.round_terms.specs.declared.label.Label.{Label}
+use Rattle.round_search.specs.declared.search.Found.{Found}
 use Rattle.round_search.specs.Bags.{gathered}
 use Rattle.round_search.specs.Cuts.{Cuts, IsFoundBy, Lacks}
 use Rattle.round_search.specs.Finals.{IsFinal, is_bettered}
-use Rattle.round_search.specs.Labels.{facts_of}
+use Rattle.round_terms.specs.Labels.{facts_of}
 use Rattle.round_search.specs.Searches.{AreEnding, AreLast, IsFit, IsGathered, IsSearched, search_of, told}
-use Rattle.round_search.specs.Steps.{IsEnd, ways}
-use Rattle.round_search.specs.Terms.{IsLawful, Terms}
+use Rattle.round_terms.specs.Steps.{IsEnd, ways}
 use Rattle.round_search.proofs.CutLaws.{cuts}
 use Rattle.round_search.proofs.FoundLaws.{found_up}
-use Rattle.round_search.proofs.FinalLaws.{bettered_up}
 use Rattle.round_search.proofs.LawfulLaws.{cover_test, ways_lawful}
-use Rattle.round_search.specs.Tasks.{HasLaws, Task}
+use Rattle.round_terms.specs.Tasks.{HasLaws, Task}
 
 -- labels that fit, with no more rides than the query's limit, may end
 pub ending_of : {F M : Type 0} (task : Task F M) (labels : List (Label F M)) → IsUsualQuery task.query →
@@ -52,8 +47,13 @@ last_first {F} {M} labels none = record {
 }
 
 module _ {F M : Type 0} (task : Task F M) (laws : HasLaws task) where
-  module _ (begin : ℕ) (labels bags : List (Label F M)) (finals : List Final)
-      (are : IsGathered task task.query.rides begin labels bags finals) where
+  module _ (found : Found F M) (bags : List (Label F M)) (are : IsGathered task task.query.rides found bags) where
+    abbrev labels : List (Label F M)
+    labels = found.labels.items
+
+    abbrev finals : List Final
+    finals = found.front
+
     whole : AreWhole (search_of task) (Lacks task finals) task.query.rides labels
     whole =
         whole_of (search_of task) (cover_test task laws) (task.query.rides + 1) labels bags are.stored
@@ -70,6 +70,7 @@ module _ {F M : Type 0} (task : Task F M) (laws : HasLaws task) where
     searched_of sound = record {
       whole = whole;
       right = are.ended.right (All-nil (IsFinal task labels));
+      ended = λ triple ends. are.ended.all triple ends;
       all = λ n a last triple reached end strict.
           let more =
           whole_weaker (search_of task) (Lacks task finals) (MayLack (ways task) (Cuts task.terms) task.whole (IsFoundBy task finals))

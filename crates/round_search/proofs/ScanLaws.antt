@@ -1,16 +1,13 @@
 -- What the positions are that labels reach, and what is offered of the rides from them.
 use Rattle.std.proofs.Common.{◌≡◌, refl, sym, ◌∙◌, ap, subst, ℕ, ◌+◌, ◌<◌, ◌≤◌, ◌⊎◌, inl, inr, ⊎_elim, Bool, true, false, List, [], ◌∷◌, ◌++◌, length, get_or, pos, arith, ℤ, ◌<ℤ◌, ◌≤ℤ◌, ◌-◌, Vec, Global, slice_index_or}
 use Rattle.std.specs.Prelude.{Some, Result, Ok, Err, OnOk, slice_get, Contains, IsPermutation, int_le}
-use Rattle.std.proofs.lemmas.Bool.{cases_lt}
+use Rattle.std.proofs.lemmas.Bool.{both_ways, cases_lt}
 use Rattle.std.proofs.lemmas.Int.{ints}
 use Rattle.std.proofs.lemmas.List.Sorted.{Contains-permutation, IsPermutation-sym}
 use Rattle.std.specs.Vec.{vec_len}
 use Rattle.std.proofs.lemmas.Option.{same_Some, slice_get-get_or, slice_get_read, slice_get_within}
-use Rattle.feed_rows.specs.declared.journeys.Query.{Query}
 use Rattle.feed_rows.specs.declared.journeys.Ride.{Ride}
-use Rattle.feed_rows.specs.FeedRows.{FeedRows}
 use Rattle.feed_rows.specs.JourneyStands.{Stand, stand_at_end}
-use Rattle.label_order.specs.Labels.{OrderLaws}
 use Rattle.std.proofs.lemmas.List.{length_push}
 use Rattle.plain_laws.proofs.Laws.{Contains-slice_get, int_le-true, slice_get-Contains, slice_get-push_before, slice_get-push_last}
 use Rattle.plan_rides.specs.Cutoffs.{AreLastDepartures, CutoffOf, cutoff_of, is_early}
@@ -19,30 +16,33 @@ use Rattle.plan_rides.specs.Reached.{AddsReached, HoldsFrom, IsAny, IsReachedFro
 use Rattle.plan_rides.specs.declared.caught.CaughtRide.{CaughtRide}
 use Rattle.plan_rides.specs.declared.positions.Reached.{Reached}
 use Rattle.plan_rides.proofs.FoundLaws.{has_kept, kept_never, kept_right}
-use Rattle.round_search.specs.declared.label.Label.{Label}
+use Rattle.round_terms.specs.declared.label.Label.{Label}
 use Rattle.round_search.specs.declared.scan.Round.{Round}
 use Rattle.round_search.specs.declared.search.Source.{Source}
 use Rattle.round_search.specs.declared.bounds.Until.{Until}
-use Rattle.round_search.specs.declared.scan.Limits.{Limits}
+use Rattle.round_search.specs.declared.offers.Limits.{Limits}
+use Rattle.round_search.specs.declared.offers.Served.{Served}
 use Rattle.round_search.specs.declared.scan.Marks.{Marks}
 use Rattle.transit_base.specs.declared.moments.Moment.{Moment}
 use Rattle.feed_rows.specs.declared.journeys.RideFacts.{RideFacts}
 use Rattle.round_search.specs.Bounds.{IsAnyRide, IsFair}
 use Rattle.round_search.specs.Cuts.{Lacks, is_cut}
-use Rattle.round_search.specs.Labels.{facts_of}
-use Rattle.round_search.specs.Scans.{AddsLabel, AddsMarks, AreLimits, AreMarks, AreMarksTo, AreReached, AreUntilsIn, HaveUntils, IsBehind, IsMarked, IsOrigin, IsRound, StepsAmong, StepsAt, StepsAtFirst, StepsFromPosition}
+use Rattle.round_terms.specs.Labels.{facts_of}
+use Rattle.round_search.specs.Offers.{AreLimits, IsBehind, IsLeftOut}
+use Rattle.round_search.specs.Scans.{AddsLabel, AddsMarks, AreMarks, AreMarksTo, AreReached, AreUntilsIn, HaveUntils, IsMarked, IsOrigin, IsRound, StepsAmong, StepsAt, StepsAtFirst, StepsFromPosition}
+use Rattle.round_search.specs.Settled.{ArePassed, IsDone}
 use Rattle.round_search.specs.Searches.{IsSource, StepsBy, StepsByFirst, StepsTo}
-use Rattle.round_search.specs.Steps.{IsStep, stand_of_facts}
-use Rattle.round_search.specs.Terms.{Facts, IsLawful, Terms}
+use Rattle.round_terms.specs.Steps.{IsStep, stand_of_facts}
+use Rattle.round_terms.specs.Terms.{Facts}
 use Rattle.round_search.proofs.BoundLaws.{untils_cut}
 use Rattle.round_search.proofs.FoundLaws.{cut_lacks, lacks_after, step_cut}
 use Rattle.round_search.proofs.RideLaws.{rides_more}
 use Rattle.round_search.proofs.SpanLaws.{in_time_of}
 use Rattle.round_search.proofs.SourceLaws.{within_more}
-use Rattle.round_search.specs.Tasks.{HasLaws, Task}
+use Rattle.round_terms.specs.Tasks.{HasLaws, Task}
 
 -- (what stands in a list doesn't hang on this)
-abbrev no_until : Until
+abbrev pub no_until : Until
 no_until = record { all = record { 0 = pos 0 }; since = record { 0 = pos 0 }; late = record { 0 = pos 0 } }
 
 -- ---- labels of a round
@@ -59,6 +59,26 @@ pub position_at : (list now : Vec Reached Global) (k n : ℕ) (x : Reached) → 
 position_at list now k n x same below many is =
     slice_get_read list.items (length list.items) k x refl (omega (arith, below, many, list.ok.0))
     (subst (λ (v : Vec Reached Global). x ≡ slice_index_or v.items k x) same is)
+
+-- ---- the steps by one position after another
+
+module _ {F M : Type 0} (task : Task F M) (round : Round F M) where
+  pub steps_more : (list : List Reached) (k : ℕ) (x : Reached) (b : Facts F) → slice_get list k ≡ Some x →
+      StepsAtFirst task round list (k + 1) b →
+      StepsAtFirst task round list k b ⊎ StepsFromPosition task round x b
+  steps_more list k x b at steps =
+      let below = steps.1 in
+      ⊎_elim (λ lower. inl (steps.0, lower, steps.2, steps.3, steps.4))
+      (λ upper. let same : steps.0 ≡ k = omega (arith, below, upper) in
+      inr (subst (λ (y : Reached). StepsFromPosition task round y b) (same_Some _ _ (sym steps.3 ∙ ap (slice_get list) same ∙ at)) steps.4))
+      (cases_lt steps.0 k)
+
+  pub steps_all : (list : List Reached) (n : ℕ) (b : Facts F) → length list ≤ n → StepsAmong task round list b →
+      StepsAtFirst task round list n b
+  steps_all list n b whole among =
+      let at = slice_get-Contains list among.0 among.1 in
+      let lt = slice_get_within list at.0 among.0 at.1 in
+      (at.0, omega (arith, lt, whole), among.0, at.1, among.2)
 
 module _ {F M : Type 0} (task : Task F M) (laws : HasLaws task) where
   -- a ride of a step is caught in time, also where the positions are of the same feed and query
@@ -265,25 +285,6 @@ module _ {F M : Type 0} (task : Task F M) (laws : HasLaws task) where
         let has = slice_get-get_or marks.untils.items place no_until (omega (arith, lt, marks.untils.ok.0)) in
         (get_or marks.untils.items place no_until, has, until_at marks reached x _ are marked at has)
 
-    -- ---- the steps by one position after another
-
-    pub steps_more : (list : List Reached) (k : ℕ) (x : Reached) (b : Facts F) → slice_get list k ≡ Some x →
-        StepsAtFirst task round list (k + 1) b →
-        StepsAtFirst task round list k b ⊎ StepsFromPosition task round x b
-    steps_more list k x b at steps =
-        let below = steps.1 in
-        ⊎_elim (λ lower. inl (steps.0, lower, steps.2, steps.3, steps.4))
-        (λ upper. let same : steps.0 ≡ k = omega (arith, below, upper) in
-        inr (subst (λ (y : Reached). StepsFromPosition task round y b) (same_Some _ _ (sym steps.3 ∙ ap (slice_get list) same ∙ at)) steps.4))
-        (cases_lt steps.0 k)
-
-    pub steps_all : (list : List Reached) (n : ℕ) (b : Facts F) → length list ≤ n → StepsAmong task round list b →
-        StepsAtFirst task round list n b
-    steps_all list n b whole among =
-        let at = slice_get-Contains list among.0 among.1 in
-        let lt = slice_get_within list at.0 among.0 at.1 in
-        (at.0, omega (arith, lt, whole), among.0, at.1, among.2)
-
     -- ---- the rides from a position
 
     module _ (source : Source F M) (own : IsSource task source) (reached : Reached) (latest : CutoffOf) (rides : List CaughtRide)
@@ -336,15 +337,26 @@ module _ {F M : Type 0} (task : Task F M) (laws : HasLaws task) where
           step_cut task laws is.sound round.finals.now (facts_of source.label.now) b caught.ride by.0 by.1
           (are.after by.1.facts.arrival.0 (subst (λ (f : RideFacts). limits.after.0 <ℤ f.arrival.0) (sym same) after) by.1.rides.in_time)
 
-      pub by_behind : (limits : Limits) (k : ℕ) (caught : CaughtRide) (b : Facts F) → slice_get rides k ≡ Some caught →
-          int_le reached.earliest.0 caught.facts.departure.0 ≡ true → AreLimits task round.finals.now (facts_of source.label.now) limits →
-          IsBehind limits caught.facts → StepsByFirst task (facts_of source.label.now) rides (k + 1) b →
-          StepsByFirst task (facts_of source.label.now) rides k b ⊎ Lacks task round.finals.now b
-      by_behind limits k caught b at since are behind steps =
+      -- one that needn't be tried leads to what is done already, or to what the search may lack
+      left_out : {L : Type 0} (served : Served L) (bags : List (Label F M)) (caught : CaughtRide) (b : Facts F) → Contains rides caught →
+          int_le reached.earliest.0 caught.facts.departure.0 ≡ true →
+          AreLimits task round.finals.now (facts_of source.label.now) served.limits →
+          ArePassed task round.finals.now (facts_of source.label.now) reached.earliest.0 rides served.passed.0 bags →
+          IsLeftOut task served caught.facts → StepsBy task (facts_of source.label.now) caught.ride b → IsDone task round.finals.now bags b
+      left_out served bags caught b has since are passed (inl departs) by = passed caught b has since departs by
+      left_out served bags caught b has since are passed (inr (inl behind)) by =
+          inr (lacks_behind served.limits caught b are behind by (same_Some _ _ (sym by.1.rides.is ∙ (right_from caught has since).facts)))
+      left_out served bags caught b has since are passed (inr (inr loose)) by = inr (λ strict. absurd (both_ways task.loose strict loose))
+
+      pub by_left_out : {L : Type 0} (served : Served L) (bags : List (Label F M)) (k : ℕ) (caught : CaughtRide) (b : Facts F) →
+          slice_get rides k ≡ Some caught → int_le reached.earliest.0 caught.facts.departure.0 ≡ true →
+          AreLimits task round.finals.now (facts_of source.label.now) served.limits →
+          ArePassed task round.finals.now (facts_of source.label.now) reached.earliest.0 rides served.passed.0 bags →
+          IsLeftOut task served caught.facts → StepsByFirst task (facts_of source.label.now) rides (k + 1) b →
+          StepsByFirst task (facts_of source.label.now) rides k b ⊎ IsDone task round.finals.now bags b
+      by_left_out served bags k caught b at since are passed left steps =
           ⊎_elim inl
-          (λ by.
-          let right = right_from caught (Contains-slice_get rides k caught at) since in
-          inr (lacks_behind limits caught b are behind by (same_Some _ _ (sym by.1.rides.is ∙ right.facts))))
+          (λ by. inr (left_out served bags caught b (Contains-slice_get rides k caught at) since are passed left by))
           (by_ride k caught b at steps)
 
       -- each step by a ride from there is by one of them, or leads to what the search may lack

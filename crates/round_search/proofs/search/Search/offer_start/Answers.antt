@@ -6,7 +6,7 @@ use Rattle.round_search.specs.Searches.{IsNever, search_of}
 use Rattle.round_search.proofs.LawfulLaws.{cover_test, ways_lawful}
 use Rattle.round_search.proofs.RideLaws.{fresh_start, start_is, started}
 use Rattle.plan_rides.proofs.StopLaws.{stands_inside}
-use Rattle.round_search.specs.Tasks.{Asked, HasLaws, task_of}
+use Rattle.round_terms.specs.Tasks.{Asked, HasLaws, task_of}
 use Rattle.round_search.proofs.search.Search.offer_start.Goals as goal
 
 pub offer-requires : goal.offer-requires
@@ -17,7 +17,7 @@ offer-requires g c =
 pub returns-clause-spreads : goal.returns-clause-spreads
 returns-clause-spreads g c =
     let task = task_of g.T.Fare.LabelOrder.at_most g.T.Tariff.terms c.args.self.now in
-    let laws : HasLaws task = record { order = g.met.T.Fare.LabelOrder.laws; fares = g.met.T.Tariff.lawful c.args.self.now.tariff } in
+    let laws : HasLaws task = c.limit-limit.ensures.laws in
     spreads_taken (search_of task) (ways_lawful task laws) (cover_test task laws)
     IsNever [] 0 c.offer.result (in_bags c.args.bags.now) (in_bags c.offer.new.self) _
     (started task laws c.args.first) c.offer.ensures.takes

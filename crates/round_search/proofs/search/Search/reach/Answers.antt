@@ -4,9 +4,9 @@ use Rattle.std.proofs.lemmas.Result.{on_ok_weaker}
 use Rattle.feed_rows.specs.JourneyStands.{Stand}
 use Rattle.plan_rides.specs.Cutoffs.{cutoff_of}
 use Rattle.plan_rides.specs.Reached.{AddsReached, IsAny}
-use Rattle.round_search.specs.Labels.{facts_of}
+use Rattle.round_terms.specs.Labels.{facts_of}
 use Rattle.round_search.proofs.ScanLaws.{marks_of}
-use Rattle.round_search.specs.Tasks.{HasLaws, task_of}
+use Rattle.round_terms.specs.Tasks.{HasLaws, task_of}
 use Rattle.round_search.proofs.search.Search.reach.Goals as goal
 
 pub cutoffs_by-cutoffs-requires : goal.cutoffs_by-cutoffs-requires
@@ -15,7 +15,7 @@ cutoffs_by-cutoffs-requires g c = c.requires.until.within
 pub returns : goal.returns
 returns g c =
     let task = task_of g.T.Fare.LabelOrder.at_most g.T.Tariff.terms c.args.self.now in
-    let laws : HasLaws task = record { order = g.met.T.Fare.LabelOrder.laws; fares = g.met.T.Tariff.lawful c.args.self.now.tariff } in
+    let laws : HasLaws task = c.limit-limit.ensures.laws in
     let round = c.args.round.now in
     let source = c.args.source.now in
     let old = c.args.reached.now.items in

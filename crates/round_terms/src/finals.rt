@@ -14,7 +14,7 @@ pub struct Final {
 
 impl Ranked for Final {
     ghost use Rattle.feed_rows.specs.ParetoTriples.{at_most, is_before};
-    ghost use Rattle.round_search.specs.declared.finals.Final.{Final};
+    ghost use Rattle.round_terms.specs.declared.finals.Final.{Final};
     ghost use Rattle.pareto_front.specs.TripleLaws.{triple_laws};
 
     ghost at_most = { λ a b. at_most a.triple b.triple };

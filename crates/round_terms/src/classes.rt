@@ -7,7 +7,7 @@ use std::hash::Hash;
 /// What is kept of fares, in classes: what is at most another has its class.
 pub trait Classed: LabelOrder + Copy {
     ghost use Rattle.std.specs.Prelude.{Option};
-    ghost use Rattle.round_search.specs.Classes.{KeepsClass};
+    ghost use Rattle.round_terms.specs.Classes.{KeepsClass};
 
     /// What only fares of one class share.
     type Class: Copy + Eq + Hash;

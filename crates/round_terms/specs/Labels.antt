@@ -1,7 +1,7 @@
 -- Labels as the program keeps them.
 use Rattle.std.specs.Prelude.{◌==◌, Bool, ◌&&◌, ◌||◌, not, nat_le, int_le}
-use Rattle.round_search.specs.declared.label.Label.{Label}
-use Rattle.round_search.specs.Terms.{Facts}
+use Rattle.round_terms.specs.declared.label.Label.{Label}
+use Rattle.round_terms.specs.Terms.{Facts}
 
 -- what a search compares the label by
 abbrev pub facts_of : {F M : Type 0} → Label F M → Facts F

@@ -1,7 +1,7 @@
 -- Classes of what is kept of fares.
 use Rattle.std.specs.Prelude.{◌≡◌, Bool, true, Option, ◌==◌, ◌&&◌}
 use Rattle.std.specs.Option.{option_eq}
-use Rattle.round_search.specs.declared.classes.StopClass.{StopClass}
+use Rattle.round_terms.specs.declared.classes.StopClass.{StopClass}
 
 -- where a fare is at most another, both have no class, or both have the same
 abbrev pub KeepsClass : {F C : Type 0} → (F → F → Bool) → (C → C → Bool) → (F → Option C) → Type 0

@@ -1,5 +1,5 @@
 -- How partial journeys go on by one more ride, and how journeys end, told by what a search compares partial journeys by.
-use Rattle.std.specs.Prelude.{◌≡◌, ℕ, ◌+◌, ◌<◌, ◌==◌, Bool, IsTrue, Some, ◌≤ℤ◌}
+use Rattle.std.specs.Prelude.{◌≡◌, ℕ, ◌<◌, ◌==◌, IsTrue, Some, ◌≤ℤ◌}
 use Rattle.transit_base.specs.declared.numbers.StopId.{StopId}
 use Rattle.feed_rows.specs.declared.fares.Triple.{Triple}
 use Rattle.feed_rows.specs.declared.journeys.Query.{Query}
@@ -12,8 +12,8 @@ use Rattle.feed_rows.specs.ParetoTriples.{at_most as is_no_worse}
 use Rattle.feed_rows.specs.Rides.{ride_facts}
 use Rattle.plan_rides.specs.InTime.{deadline}
 use Rattle.search_laws.specs.Ways.{Ways}
-use Rattle.round_search.specs.Terms.{Covers, Facts, Terms, facts_after}
-use Rattle.round_search.specs.Tasks.{Task}
+use Rattle.round_terms.specs.Terms.{Covers, Facts, Terms, facts_after}
+use Rattle.round_terms.specs.Tasks.{Task}
 
 -- those of a journey without rides from this stop
 abbrev pub start_facts : {F M : Type 0} → Terms F M → Query → StopId → Facts F

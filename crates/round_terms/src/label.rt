@@ -1,6 +1,6 @@
 //! What a search by rounds keeps of a partial journey.
 ghost use Rattle.std.specs.Prelude.{◌≡◌};
-ghost use Rattle.round_search.specs.Labels.{covers, comes_no_later};
+ghost use Rattle.round_terms.specs.Labels.{covers, comes_no_later};
 
 use feed_rows::Ride;
 use label_order::{LabelOrder, Stair};
@@ -27,8 +27,8 @@ pub struct Label<F: Copy, M: Copy> {
 }
 
 impl<F: LabelOrder + Copy, M: Copy> LabelOrder for Label<F, M> {
-    ghost use Rattle.round_search.specs.Labels.{covers};
-    ghost use Rattle.round_search.specs.CoverLaws.{cover_laws};
+    ghost use Rattle.round_terms.specs.Labels.{covers};
+    ghost use Rattle.round_terms.specs.CoverLaws.{cover_laws};
 
     ghost at_most = { covers F.at_most };
 
@@ -43,7 +43,7 @@ impl<F: LabelOrder + Copy, M: Copy> LabelOrder for Label<F, M> {
 /// One class: labels of each stop and class stand in a bag of their own.
 impl<F: LabelOrder + Copy, M: Copy> Stair for Label<F, M> {
     ghost use Rattle.std.specs.Prelude.{refl};
-    ghost use Rattle.round_search.specs.CoverLaws.{cover_rises};
+    ghost use Rattle.round_terms.specs.CoverLaws.{cover_rises};
 
     type Class = u8;
 

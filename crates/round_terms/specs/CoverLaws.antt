@@ -6,9 +6,9 @@ use Rattle.std.proofs.lemmas.Bool.{and_parts, and_from, eqb-true, eq-eqb}
 use Rattle.std.proofs.lemmas.Bool.Decides.{nat_tests}
 use Rattle.label_order.specs.Labels.{OrderLaws}
 use Rattle.transit_base.specs.declared.numbers.StopId.{StopId}
-use Rattle.round_search.specs.declared.label.Label.{Label}
-use Rattle.round_search.specs.Labels.{comes_no_later, covers, facts_of}
-use Rattle.round_search.specs.Terms.{Covers}
+use Rattle.round_terms.specs.declared.label.Label.{Label}
+use Rattle.round_terms.specs.Labels.{comes_no_later, covers, facts_of}
+use Rattle.round_terms.specs.Terms.{Covers}
 
 le_true : (x y : ℤ) → int_le x y ≡ true → x ≤ℤ y
 le_true x y h = grind (arith, ints)

@@ -5,8 +5,8 @@ use Rattle.feed_rows.specs.declared.journeys.Query.{Query}
 use Rattle.feed_rows.specs.FeedRows.{FeedRows}
 use Rattle.feed_rows.specs.Journeys.{Asked as OverFeed}
 use Rattle.label_order.specs.Labels.{OrderLaws}
-use Rattle.round_search.specs.declared.aim.Aim.{Aim}
-use Rattle.round_search.specs.Terms.{IsLawful, Terms}
+use Rattle.round_terms.specs.declared.aim.Aim.{Aim}
+use Rattle.round_terms.specs.Terms.{IsLawful, Terms}
 
 -- a tariff, a query over a feed, and what the labels are to cover: all partial journeys but those that something found cuts off, or
 -- those alone that matter for the answer beside triples that are given; or they need cover nothing, where any finals will do
@@ -57,4 +57,4 @@ task_of at_most terms asked = record {
 -- what makes a search for it right
 pub record HasLaws {F M : Type 0} (task : Task F M) : Type 0 where
   pub order : OrderLaws task.at_most
-  pub fares : IsLawful task.at_most task.terms
+  pub fares : IsLawful task.query.rides task.at_most task.terms
