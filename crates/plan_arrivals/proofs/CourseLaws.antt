@@ -27,13 +27,13 @@ use Rattle.round_laws.proofs.TimeLaws.{rides_in_time}
 use Rattle.search_laws.specs.Links.{AreLinked, IsNext, IsStart}
 use Rattle.search_laws.specs.Ways.{IsReached}
 use Rattle.search_laws.proofs.LinkLaws.{are_all}
-use Rattle.round_search.specs.declared.finals.Final.{Final}
-use Rattle.round_search.specs.declared.label.Label.{Label}
+use Rattle.round_terms.specs.declared.finals.Final.{Final}
+use Rattle.round_terms.specs.declared.label.Label.{Label}
 use Rattle.round_search.specs.Finals.{IsFinal}
-use Rattle.round_search.specs.Labels.{facts_of}
+use Rattle.round_terms.specs.Labels.{facts_of}
 use Rattle.round_search.specs.Searches.{IsSearched, told}
-use Rattle.round_search.specs.Steps.{IsEnd, IsStep, stand_of_facts, start_facts, ways}
-use Rattle.round_search.specs.Terms.{Facts, facts_after}
+use Rattle.round_terms.specs.Steps.{IsEnd, IsStep, stand_of_facts, start_facts, ways}
+use Rattle.round_terms.specs.Terms.{Facts, facts_after}
 use Rattle.plan_arrivals.specs.declared.no_fares.NoFare.{NoFare}
 use Rattle.plan_arrivals.specs.declared.no_fares.NoMove.{NoMove}
 use Rattle.plan_arrivals.specs.NoFares.{free_task, no_fares}

@@ -2,9 +2,9 @@
 use Rattle.std.proofs.Common.{◌≡◌, ℕ, zero, suc, pos}
 use Rattle.feed_rows.specs.declared.fares.Triple.{Triple}
 use Rattle.search_laws.specs.Ways.{LeadsBy}
-use Rattle.round_search.specs.Steps.{ways}
-use Rattle.round_search.specs.Tasks.{Asked, task_of}
-use Rattle.round_search.specs.Terms.{Facts}
+use Rattle.round_terms.specs.Steps.{ways}
+use Rattle.round_terms.specs.Tasks.{Asked, task_of}
+use Rattle.round_terms.specs.Terms.{Facts}
 use Rattle.plan_arrivals.specs.declared.no_fares.NoFare.{NoFare}
 use Rattle.plan_arrivals.specs.declared.no_fares.NoFares.{NoFares}
 use Rattle.plan_arrivals.specs.NoFares.{any, no_fares}

@@ -7,7 +7,7 @@ use Rattle.feed_rows.specs.FeedRows.{FeedRows}
 use Rattle.feed_rows.specs.Journeys.{IsJourney}
 use Rattle.feed_rows.specs.ParetoTriples.{at_most, is_before}
 use Rattle.pareto_front.specs.Fronts.{IsFront}
-use Rattle.round_search.specs.declared.finals.Final.{Final}
+use Rattle.round_terms.specs.declared.finals.Final.{Final}
 use Rattle.round_search.specs.Finals.{is_bettered}
 
 -- the arrival and the rides of a journey, which costs nothing

@@ -6,12 +6,13 @@ ghost use Rattle.plan_arrivals.specs.Arrivals.{AreArrivals};
 ghost use Rattle.plan_arrivals.specs.NoFares.{free_task};
 ghost use Rattle.round_search.specs.Searches.{IsSearched};
 
-use crate::no_fares::{NoFare, NoFares, NoMove};
+use crate::no_fares::{NoFare, NoFares, NoLegs, NoMove};
 use feed_rows::{Query, Triple};
 use feed_timetable::Timetable;
 use pareto_front::Front;
 use plan_rides::{Rides, Scope, SpanRuns, Spans};
-use round_search::{Aim, Final, Label, Search};
+use round_search::{Room, Search};
+use round_terms::{Aim, Final, Label};
 use std::alloc::{AllocError, Global};
 
 /// The labels of all rounds by these rides, and the best that they end in.
@@ -32,7 +33,8 @@ pub fn labels_by(
         given: &[],
         horizon: None,
     };
-    Search::of(alloc, rides, &fares, &spans, aim).labels()
+    let mut room = Room::of(alloc, NoLegs, NoLegs);
+    Search::of(alloc, rides, &fares, &spans, aim).labels(&mut room)
 }
 
 /// The best that journeys by these rides end in, whatever they cost.

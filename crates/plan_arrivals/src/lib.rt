@@ -5,4 +5,4 @@ mod earliest;
 mod no_fares;
 
 pub use earliest::{arrivals, labels_by};
-pub use no_fares::{NoFare, NoFares, NoMove};
+pub use no_fares::{NoFare, NoFares, NoLegs, NoMove};

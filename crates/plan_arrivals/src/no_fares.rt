@@ -1,8 +1,8 @@
 //! A tariff that asks for no fares.
-use feed_rows::RideFacts;
 use label_order::LabelOrder;
-use round_search::{Classed, Label, LeastPrice, Tariff};
-use std::alloc::AllocError;
+use plan_rides::CaughtRide;
+use round_terms::{Classed, Label, LeastPrice, Leg, Tariff};
+use std::alloc::{AllocError, Global};
 use transit_base::{Moment, Money};
 
 /// Nothing is kept of fares.
@@ -40,6 +40,15 @@ impl Classed for NoFare {
 #[derive(Clone, Copy)]
 pub struct NoMove;
 
+/// Nothing is known of rides, and no room is needed for it.
+pub struct NoLegs;
+
+impl Drop for NoLegs {
+    fn drop(self) {
+        let NoLegs = self;
+    }
+}
+
 /// Each ride is free, and so is each journey.
 #[derive(Clone, Copy)]
 pub struct NoFares;
@@ -51,18 +60,40 @@ impl Tariff for NoFares {
 
     type Move = NoMove;
 
+    type Legs = NoLegs;
+
+    type Room = NoLegs;
+
     ghost terms = { λ s. no_fares };
 
     ghost Serves = { λ asked. Unit {0} };
+
+    ghost Knows = { λ s legs. Unit {0} };
+
+    ghost IsKnown = { λ s legs place ride. Unit {0} };
 
     fn begin(&self) -> NoFare {
         NoFare
     }
 
+    fn find_legs(
+        &self,
+        _alloc: Global,
+        _rides: &[CaughtRide],
+        _legs: &mut NoLegs,
+    ) -> Result<(), AllocError> {
+        Ok(())
+    }
+
+    fn is_repeated(&self, _leg: &Leg<'_, NoLegs>, _since: Moment) -> bool {
+        false
+    }
+
     fn moves_into(
         &self,
         _label: &Label<NoFare, NoMove>,
-        _ride: &RideFacts,
+        _leg: &Leg<'_, NoLegs>,
+        _room: &mut NoLegs,
         moves: &mut Vec<NoMove>,
     ) -> Result<(), AllocError> {
         moves.clear();
@@ -70,7 +101,12 @@ impl Tariff for NoFares {
         Ok(())
     }
 
-    fn after(&self, _label: &Label<NoFare, NoMove>, _ride: &RideFacts, _taken: &NoMove) -> NoFare {
+    fn after(
+        &self,
+        _label: &Label<NoFare, NoMove>,
+        _ride: &CaughtRide,
+        _taken: &NoMove,
+    ) -> NoFare {
         NoFare
     }
 
@@ -100,5 +136,15 @@ impl Tariff for NoFares {
         None
     }
 
-    ghost lawful = { λ s. free_lawful };
+    fn settled_since(
+        &self,
+        _label: &Label<NoFare, NoMove>,
+        _legs: &NoLegs,
+        _first: Moment,
+        _last: Moment,
+    ) -> Option<Moment> {
+        None
+    }
+
+    ghost lawful = { λ asked serves. free_lawful asked.query.rides };
 }

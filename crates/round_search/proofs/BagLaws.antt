@@ -13,11 +13,11 @@ use Rattle.search_laws.specs.Stores.{Takes}
 use Rattle.plain_laws.specs.Plain.{joined_below}
 use Rattle.plain_laws.proofs.Laws.{AllPairs-joined_below, Contains-cons_cases, joined_below-same, joined_more, slice_get-push_last}
 use Rattle.transit_base.specs.declared.numbers.StopId.{StopId}
-use Rattle.round_search.specs.declared.label.Label.{Label}
+use Rattle.round_terms.specs.declared.label.Label.{Label}
 use Rattle.round_search.specs.Bags.{AreStopBags, IsBagOf, IsOf, bag_at, has_rides, in_all}
-use Rattle.round_search.specs.Classes.{KeepsClass}
-use Rattle.round_search.specs.CoverLaws.{covers-tells}
-use Rattle.round_search.specs.Labels.{covers}
+use Rattle.round_terms.specs.Classes.{KeepsClass}
+use Rattle.round_terms.specs.CoverLaws.{covers-tells}
+use Rattle.round_terms.specs.Labels.{covers}
 use Rattle.round_search.proofs.TakeLaws.{takes_joined}
 
 -- what passes of many lists is what passes of each

@@ -19,14 +19,14 @@ use Rattle.plan_rides.specs.Cutoffs.{cutoff_by, is_early, is_span, is_span_any}
 use Rattle.plan_rides.specs.InTime.{IsWithinWindow, deadline}
 use Rattle.plan_rides.specs.Spans.{AreSpans, SpanLists, no_spans, stands_of}
 use Rattle.search_laws.specs.Ways.{LeadsBy}
-use Rattle.round_search.specs.declared.finals.Final.{Final}
-use Rattle.round_search.specs.declared.tariff.LeastPrice.{LeastPrice}
+use Rattle.round_terms.specs.declared.finals.Final.{Final}
+use Rattle.round_terms.specs.declared.tariff.LeastPrice.{LeastPrice}
 use Rattle.round_search.specs.Bounds.{AreFoundBy, AreLate, AreUntils, CostBy, CostOn, DepartsAfter, IsAnyRide, IsCutAfter, IsDearer, IsLateIf, IsFair, IsFoundUntil, IsUntil, IsUntilBy, IsUntilFirst, LeadsOn}
 use Rattle.round_search.specs.Cuts.{IsFoundBy, Lacks, has_ahead, is_cut, is_within}
 use Rattle.round_search.specs.Searches.{StepsTo}
-use Rattle.round_search.specs.Steps.{ways}
-use Rattle.round_search.specs.Tasks.{Asked, HasLaws, Task, task_of}
-use Rattle.round_search.specs.Terms.{Facts, Terms}
+use Rattle.round_terms.specs.Steps.{ways}
+use Rattle.round_terms.specs.Tasks.{Asked, HasLaws, Task, task_of}
+use Rattle.round_terms.specs.Terms.{Facts, Terms}
 use Rattle.round_search.proofs.CutLaws.{cuts}
 use Rattle.round_search.proofs.FoundLaws.{HasFoundAhead, ahead_passes, ahead_tells, found_ahead, found_up, futile_lacks}
 use Rattle.round_search.proofs.SpanLaws.{leads_early, leads_few, leads_in_time, overdue}

@@ -15,11 +15,11 @@ use Rattle.std.proofs.lemmas.Option.{get_or_from_slice_get, same_Some, slice_get
 use Rattle.indexmap.specs.Layout.{set_value_at}
 use Rattle.label_bag.specs.Bags.{Apart, AreApart}
 use Rattle.plain_laws.proofs.Laws.{AllPairs-append, AllPairs-joined_below, joined_below-tells, slice_get-append_left, slice_get-push_last}
-use Rattle.round_search.specs.declared.classes.StopClass.{StopClass}
-use Rattle.round_search.specs.declared.label.Label.{Label}
+use Rattle.round_terms.specs.declared.classes.StopClass.{StopClass}
+use Rattle.round_terms.specs.declared.label.Label.{Label}
 use Rattle.round_search.specs.Bags.{AreBags, AreClassBags, ByClass, IsBagOf, IsOf, bag_at, bags_of, in_all, in_bags}
-use Rattle.round_search.specs.Classes.{KeepsClass, same_key}
-use Rattle.round_search.specs.Labels.{covers}
+use Rattle.round_terms.specs.Classes.{KeepsClass, same_key}
+use Rattle.round_terms.specs.Labels.{covers}
 use Rattle.round_search.proofs.BagLaws.{bags_set, in_push, last_bag, of_stop, stops_apart, strangers}
 
 -- ---- entries of a map

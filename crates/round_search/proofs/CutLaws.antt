@@ -21,15 +21,15 @@ use Rattle.label_order.specs.Labels.{OrderLaws}
 use Rattle.plain_laws.proofs.Laws.{filled_and-true, int_le-true, list_any_tells, slice_get-append_left}
 use Rattle.search_laws.specs.Cuts.{AreCuts}
 use Rattle.search_laws.specs.Ways.{LeadsBy}
-use Rattle.round_search.specs.declared.finals.Final.{Final}
-use Rattle.round_search.specs.declared.label.Label.{Label}
+use Rattle.round_terms.specs.declared.finals.Final.{Final}
+use Rattle.round_terms.specs.declared.label.Label.{Label}
 use Rattle.round_search.specs.Cuts.{Cuts, least_end}
 use Rattle.round_search.specs.Finals.{AddsEnds, EndsBelow, IsFinal, is_bettered}
-use Rattle.round_search.specs.Steps.{IsCaughtFrom, IsEnd, IsStep, stand_of_facts, ways}
-use Rattle.round_search.specs.Terms.{Covers, Facts, facts_after}
+use Rattle.round_terms.specs.Steps.{IsCaughtFrom, IsEnd, IsStep, stand_of_facts, ways}
+use Rattle.round_terms.specs.Terms.{Covers, Facts, facts_after}
 use Rattle.round_search.proofs.FinalLaws.{bettered_up}
 use Rattle.round_search.proofs.LawfulLaws.{parts_below}
-use Rattle.round_search.specs.Tasks.{HasLaws, Task}
+use Rattle.round_terms.specs.Tasks.{HasLaws, Task}
 
 module _ {F M : Type 0} (task : Task F M) (laws : HasLaws task) where
   -- ---- what covers

@@ -21,16 +21,16 @@ use Rattle.plain_laws.proofs.Laws.{All-slice_get, slice_get-append_left}
 use Rattle.plan_rides.specs.InTime.{arrival_in_time}
 use Rattle.plan_rides.proofs.ArrivalLaws.{arrives_in_time, in_time_arrives}
 use Rattle.plan_rides.proofs.MarkLaws.{member_of_stands_for}
-use Rattle.round_search.specs.declared.finals.Final.{Final}
-use Rattle.round_search.specs.declared.label.Label.{Label}
+use Rattle.round_terms.specs.declared.finals.Final.{Final}
+use Rattle.round_terms.specs.declared.label.Label.{Label}
 use Rattle.round_search.specs.declared.search.Source.{Source}
 use Rattle.round_search.specs.Finals.{AddsEnds, EndsAmong, EndsBelow, EndsIn, IsFinal, is_bettered}
-use Rattle.round_search.specs.Labels.{facts_of}
+use Rattle.round_terms.specs.Labels.{facts_of}
 use Rattle.round_search.specs.Searches.{AreEnding, IsEnding, IsFit}
-use Rattle.round_search.specs.Steps.{IsEnd, stand_of_facts}
-use Rattle.round_search.specs.Terms.{Terms}
+use Rattle.round_terms.specs.Steps.{IsEnd, stand_of_facts}
+use Rattle.round_terms.specs.Terms.{Terms}
 use Rattle.round_search.proofs.LawfulLaws.{parts_below}
-use Rattle.round_search.specs.Tasks.{Task}
+use Rattle.round_terms.specs.Tasks.{Task}
 
 -- finals by their triples
 abbrev pub as_good : Final → Final → Bool

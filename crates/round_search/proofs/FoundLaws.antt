@@ -17,15 +17,15 @@ use Rattle.search_laws.specs.Cuts.{IsFutile, MayLack}
 use Rattle.search_laws.specs.Stores.{IsUncut}
 use Rattle.search_laws.specs.Ways.{IsUpward}
 use Rattle.search_laws.proofs.CutLaws.{lack_after, lack_below, lack_futile, lack_more}
-use Rattle.round_search.specs.declared.finals.Final.{Final}
-use Rattle.round_search.specs.declared.label.Label.{Label}
+use Rattle.round_terms.specs.declared.finals.Final.{Final}
+use Rattle.round_terms.specs.declared.label.Label.{Label}
 use Rattle.round_search.specs.Cuts.{Cuts, IsFoundBy, Lacks, has_ahead, is_ahead, is_cut, is_given, is_within, least_end}
 use Rattle.round_search.specs.Finals.{HasEnds, is_bettered}
-use Rattle.round_search.specs.Labels.{facts_of}
+use Rattle.round_terms.specs.Labels.{facts_of}
 use Rattle.round_search.specs.Searches.{search_of}
-use Rattle.round_search.specs.Steps.{IsStep, ways}
-use Rattle.round_search.specs.Tasks.{HasLaws, Task}
-use Rattle.round_search.specs.Terms.{Covers, Facts, facts_after}
+use Rattle.round_terms.specs.Steps.{IsStep, ways}
+use Rattle.round_terms.specs.Tasks.{HasLaws, Task}
+use Rattle.round_terms.specs.Terms.{Covers, Facts, facts_after}
 use Rattle.round_search.proofs.CutLaws.{cuts}
 use Rattle.round_search.proofs.FinalLaws.{bettered_up}
 use Rattle.round_search.proofs.LawfulLaws.{parts_below, ways_lawful}

@@ -18,11 +18,11 @@ use Rattle.feed_rows.specs.ParetoTriples.{at_most as is_no_worse}
 use Rattle.label_order.specs.Labels.{OrderLaws}
 use Rattle.search_laws.specs.Stores.{IsCoverTest}
 use Rattle.search_laws.specs.Ways.{AreLawful, EndsNoWorse, IsFollowed}
-use Rattle.round_search.specs.CoverLaws.{cover_laws, covers-tells}
+use Rattle.round_terms.specs.CoverLaws.{cover_laws, covers-tells}
 use Rattle.round_search.specs.Searches.{search_of}
-use Rattle.round_search.specs.Steps.{IsCaughtFrom, IsEnd, IsStep, stand_of_facts, ways}
-use Rattle.round_search.specs.Terms.{Covers, Facts, IsLawful, Terms, facts_after}
-use Rattle.round_search.specs.Tasks.{HasLaws, Task}
+use Rattle.round_terms.specs.Steps.{IsCaughtFrom, IsEnd, IsStep, stand_of_facts, ways}
+use Rattle.round_terms.specs.Terms.{Covers, Facts, IsLawful, Terms, facts_after}
+use Rattle.round_terms.specs.Tasks.{HasLaws, Task}
 
 no_later : (x y z : ℤ) → x ≤ℤ y → y ≤ℤ z → x ≤ℤ z
 no_later x y z p q = omega (arith, ints, p, q)

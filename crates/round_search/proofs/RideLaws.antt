@@ -23,15 +23,15 @@ use Rattle.plan_rides.proofs.DepartureLaws.{ride_end}
 use Rattle.plan_rides.proofs.MarkLaws.{member_of_stands_for}
 use Rattle.label_order.specs.Labels.{OrderLaws}
 use Rattle.search_laws.specs.Stores.{IsFresh, IsHeldBelow, IsUncut}
-use Rattle.round_search.specs.declared.finals.Final.{Final}
-use Rattle.round_search.specs.declared.label.Label.{Label}
+use Rattle.round_terms.specs.declared.finals.Final.{Final}
+use Rattle.round_terms.specs.declared.label.Label.{Label}
 use Rattle.round_search.specs.declared.search.Source.{Source}
 use Rattle.round_search.specs.Cuts.{Lacks}
-use Rattle.round_search.specs.Labels.{facts_of}
+use Rattle.round_terms.specs.Labels.{facts_of}
 use Rattle.round_search.specs.Searches.{IsFit, IsSource, IsStartAmong, LeadsByFirst, SpreadsFrom, StepsBy, StepsByFirst, search_of}
-use Rattle.round_search.specs.Steps.{IsCaughtFrom, IsStep, stand_of_facts, start_facts, ways}
-use Rattle.round_search.specs.Tasks.{HasLaws, Task}
-use Rattle.round_search.specs.Terms.{AreEnough, Covers, Facts, IsLawful, Terms, facts_after}
+use Rattle.round_terms.specs.Steps.{IsCaughtFrom, IsStep, stand_of_facts, start_facts, ways}
+use Rattle.round_terms.specs.Tasks.{HasLaws, Task}
+use Rattle.round_terms.specs.Terms.{AreEnough, Covers, Facts, IsLawful, Terms, facts_after}
 use Rattle.round_search.proofs.FoundLaws.{lacks_below}
 use Rattle.round_search.proofs.LawfulLaws.{covers-trans}
 use Rattle.plan_rides.proofs.StopLaws.{stands_inside}

@@ -17,20 +17,20 @@ use Rattle.search_laws.specs.Cuts.{MayLack}
 use Rattle.search_laws.specs.Stores.{AreWhole}
 use Rattle.search_laws.proofs.CoverLaws.{each_found}
 use Rattle.search_laws.proofs.StoreLaws.{whole_of, whole_weaker}
-use Rattle.round_search.specs.declared.finals.Final.{Final}
-use Rattle.round_search.specs.declared.label.Label.{Label}
+use Rattle.round_terms.specs.declared.finals.Final.{Final}
+use Rattle.round_terms.specs.declared.label.Label.{Label}
 use Rattle.round_search.specs.Bags.{gathered}
 use Rattle.round_search.specs.Cuts.{Cuts, IsFoundBy, Lacks}
 use Rattle.round_search.specs.Finals.{IsFinal, is_bettered}
-use Rattle.round_search.specs.Labels.{facts_of}
+use Rattle.round_terms.specs.Labels.{facts_of}
 use Rattle.round_search.specs.Searches.{AreEnding, AreLast, IsFit, IsGathered, IsSearched, search_of, told}
-use Rattle.round_search.specs.Steps.{IsEnd, ways}
-use Rattle.round_search.specs.Terms.{IsLawful, Terms}
+use Rattle.round_terms.specs.Steps.{IsEnd, ways}
+use Rattle.round_terms.specs.Terms.{IsLawful, Terms}
 use Rattle.round_search.proofs.CutLaws.{cuts}
 use Rattle.round_search.proofs.FoundLaws.{found_up}
 use Rattle.round_search.proofs.FinalLaws.{bettered_up}
 use Rattle.round_search.proofs.LawfulLaws.{cover_test, ways_lawful}
-use Rattle.round_search.specs.Tasks.{HasLaws, Task}
+use Rattle.round_terms.specs.Tasks.{HasLaws, Task}
 
 -- labels that fit, with no more rides than the query's limit, may end
 pub ending_of : {F M : Type 0} (task : Task F M) (labels : List (Label F M)) → IsUsualQuery task.query →

@@ -19,7 +19,7 @@ use Rattle.plan_rides.specs.Reached.{AddsReached, HoldsFrom, IsAny, IsReachedFro
 use Rattle.plan_rides.specs.declared.caught.CaughtRide.{CaughtRide}
 use Rattle.plan_rides.specs.declared.positions.Reached.{Reached}
 use Rattle.plan_rides.proofs.FoundLaws.{has_kept, kept_never, kept_right}
-use Rattle.round_search.specs.declared.label.Label.{Label}
+use Rattle.round_terms.specs.declared.label.Label.{Label}
 use Rattle.round_search.specs.declared.scan.Round.{Round}
 use Rattle.round_search.specs.declared.search.Source.{Source}
 use Rattle.round_search.specs.declared.bounds.Until.{Until}
@@ -29,17 +29,17 @@ use Rattle.transit_base.specs.declared.moments.Moment.{Moment}
 use Rattle.feed_rows.specs.declared.journeys.RideFacts.{RideFacts}
 use Rattle.round_search.specs.Bounds.{IsAnyRide, IsFair}
 use Rattle.round_search.specs.Cuts.{Lacks, is_cut}
-use Rattle.round_search.specs.Labels.{facts_of}
+use Rattle.round_terms.specs.Labels.{facts_of}
 use Rattle.round_search.specs.Scans.{AddsLabel, AddsMarks, AreLimits, AreMarks, AreMarksTo, AreReached, AreUntilsIn, HaveUntils, IsBehind, IsMarked, IsOrigin, IsRound, StepsAmong, StepsAt, StepsAtFirst, StepsFromPosition}
 use Rattle.round_search.specs.Searches.{IsSource, StepsBy, StepsByFirst, StepsTo}
-use Rattle.round_search.specs.Steps.{IsStep, stand_of_facts}
-use Rattle.round_search.specs.Terms.{Facts, IsLawful, Terms}
+use Rattle.round_terms.specs.Steps.{IsStep, stand_of_facts}
+use Rattle.round_terms.specs.Terms.{Facts, IsLawful, Terms}
 use Rattle.round_search.proofs.BoundLaws.{untils_cut}
 use Rattle.round_search.proofs.FoundLaws.{cut_lacks, lacks_after, step_cut}
 use Rattle.round_search.proofs.RideLaws.{rides_more}
 use Rattle.round_search.proofs.SpanLaws.{in_time_of}
 use Rattle.round_search.proofs.SourceLaws.{within_more}
-use Rattle.round_search.specs.Tasks.{HasLaws, Task}
+use Rattle.round_terms.specs.Tasks.{HasLaws, Task}
 
 -- (what stands in a list doesn't hang on this)
 abbrev no_until : Until

@@ -11,13 +11,13 @@ use Rattle.feed_rows.specs.JourneyStands.{first_stand}
 use Rattle.plain_laws.proofs.Laws.{All-slice_get, slice_get-Contains, slice_get-append_left, slice_get-append_right}
 use Rattle.search_laws.specs.Links.{IsLinked}
 use Rattle.search_laws.specs.Stores.{AreStored, StepsFrom}
-use Rattle.round_search.specs.declared.label.Label.{Label}
-use Rattle.round_search.specs.Labels.{facts_of}
+use Rattle.round_terms.specs.declared.label.Label.{Label}
+use Rattle.round_terms.specs.Labels.{facts_of}
 use Rattle.round_search.specs.Scans.{IsOrigin}
 use Rattle.round_search.specs.Searches.{AreLast, IsFit, StepsTo, StepsWithin, search_of, told}
-use Rattle.round_search.specs.Steps.{stand_of_facts, ways}
-use Rattle.round_search.specs.Terms.{Facts, Terms}
-use Rattle.round_search.specs.Tasks.{Task}
+use Rattle.round_terms.specs.Steps.{stand_of_facts, ways}
+use Rattle.round_terms.specs.Terms.{Facts, Terms}
+use Rattle.round_terms.specs.Tasks.{Task}
 
 module _ {F M : Type 0} (task : Task F M) where
   -- a label without rides stands at a first stop

@@ -19,9 +19,9 @@ use Rattle.plan_rides.specs.Spans.{AreEndSpans, AreSpans, SpanLists, stands_of}
 use Rattle.plan_rides.proofs.CaughtLaws.{caught_within}
 use Rattle.plan_rides.proofs.CutoffLaws.{later_early}
 use Rattle.search_laws.specs.Ways.{LeadsBy}
-use Rattle.round_search.specs.Steps.{IsCaughtFrom, IsEnd, IsStep, stand_of_facts, ways}
-use Rattle.round_search.specs.Tasks.{Task}
-use Rattle.round_search.specs.Terms.{Facts}
+use Rattle.round_terms.specs.Steps.{IsCaughtFrom, IsEnd, IsStep, stand_of_facts, ways}
+use Rattle.round_terms.specs.Tasks.{Task}
+use Rattle.round_terms.specs.Terms.{Facts}
 
 -- ---- steps
 

@@ -8,10 +8,10 @@ use Rattle.label_bag.specs.Flights.{IsFlight}
 use Rattle.plain_laws.specs.Plain.{joined_below}
 use Rattle.feed_rows.specs.FeedRows.{FeedRows}
 use Rattle.search_laws.specs.Stores.{gathered as gathered_by}
-use Rattle.round_search.specs.declared.classes.StopClass.{StopClass}
-use Rattle.round_search.specs.declared.label.Label.{Label}
-use Rattle.round_search.specs.Classes.{same_key}
-use Rattle.round_search.specs.Labels.{covers}
+use Rattle.round_terms.specs.declared.classes.StopClass.{StopClass}
+use Rattle.round_terms.specs.declared.label.Label.{Label}
+use Rattle.round_terms.specs.Classes.{same_key}
+use Rattle.round_terms.specs.Labels.{covers}
 
 -- the bags of all stops: of labels without a class one for each stop, and of the others one for each stop and class
 pub record Bags (F M : Type 0) : Type 0 where

@@ -8,15 +8,16 @@ use Rattle.plan_rides.specs.Cutoffs.{CutoffOf, is_early}
 use Rattle.plan_rides.specs.InTime.{deadline}
 use Rattle.search_laws.specs.Ways.{LeadsBy}
 use Rattle.round_search.specs.declared.bounds.Until.{Until}
-use Rattle.round_search.specs.declared.finals.Final.{Final}
-use Rattle.round_search.specs.declared.tariff.LeastPrice.{LeastPrice}
-use Rattle.round_search.specs.declared.label.Label.{Label}
+use Rattle.round_terms.specs.declared.finals.Final.{Final}
+use Rattle.round_terms.specs.declared.tariff.LeastPrice.{LeastPrice}
+use Rattle.round_terms.specs.declared.label.Label.{Label}
+use Rattle.round_terms.specs.Costs.{IsDearer, LeadsOn}
 use Rattle.round_search.specs.Cuts.{IsFoundBy, Lacks, has_ahead}
-use Rattle.round_search.specs.Labels.{facts_of}
+use Rattle.round_terms.specs.Labels.{facts_of}
 use Rattle.round_search.specs.Searches.{StepsTo}
-use Rattle.round_search.specs.Steps.{IsStep, ways}
-use Rattle.round_search.specs.Tasks.{Task}
-use Rattle.round_search.specs.Terms.{Facts, Terms}
+use Rattle.round_terms.specs.Steps.{IsStep, ways}
+use Rattle.round_terms.specs.Tasks.{Task}
+use Rattle.round_terms.specs.Terms.{Facts, Terms}
 
 -- ---- the rides that are looked at
 
@@ -27,34 +28,11 @@ IsAnyRide ride = ⊤
 abbrev pub DepartsAfter : ℤ → RideFacts → Type 0
 DepartsAfter since ride = since <ℤ ride.departure.0
 
--- it is late after such facts, where late ones are asked for
-abbrev pub IsLateIf : {F M : Type 0} → Terms F M → Facts F → Bool → RideFacts → Type 0
-IsLateIf t a late ride = late ≡ true → t.IsLate a ride
-
--- each ride that departs later than the moment and no later than the last one is late after such facts
-abbrev pub AreLate : {F M : Type 0} → Terms F M → Facts F → ℤ → ℤ → Type 0
-AreLate t a since last = (ride : RideFacts) → since <ℤ ride.departure.0 → ride.departure.0 ≤ℤ last → t.IsLate a ride
-
--- from such facts a ride of this part and so many more lead to a journey's end with this triple
-abbrev pub LeadsOn : {F M : Type 0} → Task F M → (RideFacts → Type 0) → ℕ → Facts F → Triple → Type 0
-LeadsOn {F} {M} task Part n a triple =
-    (ride : Ride) × (move : M) × (b : Facts F) × (step : IsStep task a ride move b) × Part step.facts × LeadsBy (ways task) n b triple
-
 -- ---- what they cost, and until when they may arrive
-
--- there is a price, and the triple's isn't less
-pub record IsDearer (price : Option LeastPrice) (triple : Triple) : Type 0 where
-  pub least : LeastPrice
-  pub is : price ≡ Some least
-  pub below : least.0 ≤ℤ triple.price.0
 
 -- no journey of so many further rides costs less; none is there where there is no price
 abbrev pub CostBy : {F M : Type 0} → Task F M → ℕ → Facts F → Option LeastPrice → Type 0
 CostBy task n a price = (triple : Triple) → LeadsBy (ways task) n a triple → IsDearer price triple
-
--- nor does one that goes on by a ride of this part and so many more
-abbrev pub CostOn : {F M : Type 0} → Task F M → (RideFacts → Type 0) → ℕ → Facts F → Option LeastPrice → Type 0
-CostOn task Part n a price = (triple : Triple) → LeadsOn task Part n a triple → IsDearer price triple
 
 -- whatever so many further rides lead to is found
 abbrev pub AreFoundBy : {F M : Type 0} → Task F M → List Final → ℕ → Facts F → Type 0

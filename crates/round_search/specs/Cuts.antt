@@ -4,11 +4,11 @@ use Rattle.std.specs.List.{list_any}
 use Rattle.feed_rows.specs.declared.fares.Triple.{Triple}
 use Rattle.feed_rows.specs.ParetoTriples.{at_most as is_no_worse}
 use Rattle.search_laws.specs.Cuts.{MayLack}
-use Rattle.round_search.specs.declared.finals.Final.{Final}
+use Rattle.round_terms.specs.declared.finals.Final.{Final}
 use Rattle.round_search.specs.Finals.{is_bettered}
-use Rattle.round_search.specs.Steps.{ways}
-use Rattle.round_search.specs.Tasks.{Task}
-use Rattle.round_search.specs.Terms.{Facts, Terms}
+use Rattle.round_terms.specs.Steps.{ways}
+use Rattle.round_terms.specs.Tasks.{Task}
+use Rattle.round_terms.specs.Terms.{Facts, Terms}
 
 -- no journey that goes on from such facts, or ends with them, arrives earlier, has fewer rides or costs less
 abbrev pub least_end : {F M : Type 0} → Terms F M → Facts F → Triple

@@ -7,12 +7,12 @@ use Rattle.feed_rows.specs.declared.journeys.Query.{Query}
 use Rattle.feed_rows.specs.FeedRows.{FeedRows}
 use Rattle.feed_rows.specs.ParetoTriples.{at_most as is_no_worse}
 use Rattle.plain_laws.specs.Adds.{Adds, AllStay}
-use Rattle.round_search.specs.declared.finals.Final.{Final}
-use Rattle.round_search.specs.declared.label.Label.{Label}
-use Rattle.round_search.specs.Labels.{facts_of}
-use Rattle.round_search.specs.Steps.{IsEnd}
-use Rattle.round_search.specs.Terms.{Terms}
-use Rattle.round_search.specs.Tasks.{Task}
+use Rattle.round_terms.specs.declared.finals.Final.{Final}
+use Rattle.round_terms.specs.declared.label.Label.{Label}
+use Rattle.round_terms.specs.Labels.{facts_of}
+use Rattle.round_terms.specs.Steps.{IsEnd}
+use Rattle.round_terms.specs.Terms.{Terms}
+use Rattle.round_terms.specs.Tasks.{Task}
 
 -- some final's triple is at most this one
 abbrev pub is_bettered : List Final → Triple → Type 0

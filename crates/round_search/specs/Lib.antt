@@ -1,13 +1,9 @@
-pub mod Terms
-pub mod Tasks
-pub mod Labels
-pub mod CoverLaws
-pub mod Classes
 pub mod Bags
-pub mod Steps
+pub mod Finals
 pub mod Cuts
 pub mod Searches
 pub mod Bounds
-pub mod Finals
 pub mod Scans
+pub mod Settled
+pub mod Offers
 pub mod NoSpans

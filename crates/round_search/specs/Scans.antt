@@ -9,24 +9,24 @@ use Rattle.plan_rides.specs.InTime.{IsUsualQuery, deadline}
 use Rattle.plan_rides.specs.Reached.{HoldsFrom, IsReachedFrom, Positioned}
 use Rattle.plan_rides.specs.declared.positions.Reached.{Reached}
 use Rattle.search_laws.specs.Stores.{Spreads}
-use Rattle.round_search.specs.declared.label.Label.{Label}
+use Rattle.round_terms.specs.declared.label.Label.{Label}
 use Rattle.round_search.specs.declared.scan.Round.{Round}
 use Rattle.round_search.specs.declared.search.Source.{Source}
 use Rattle.round_search.specs.Bounds.{AreUntils, DepartsAfter, IsAnyRide, IsCutAfter, IsFair}
 use Rattle.round_search.specs.Cuts.{Lacks}
 use Rattle.round_search.specs.Finals.{HasEnds}
 use Rattle.round_search.specs.declared.bounds.Until.{Until}
-use Rattle.round_search.specs.declared.finals.Final.{Final}
+use Rattle.round_terms.specs.declared.finals.Final.{Final}
 use Rattle.round_search.specs.declared.scan.Limits.{Limits}
 use Rattle.round_search.specs.declared.scan.Marks.{Marks}
 use Rattle.plan_rides.specs.Cutoffs.{CutoffOf, cutoff_of, is_early}
 use Rattle.plan_rides.specs.declared.caught.CaughtRide.{CaughtRide}
 use Rattle.feed_rows.specs.declared.journeys.RideFacts.{RideFacts}
-use Rattle.round_search.specs.Labels.{facts_of}
+use Rattle.round_terms.specs.Labels.{facts_of}
 use Rattle.round_search.specs.Searches.{AreLast, IsFit, StepsTo, StepsWithin, search_of}
-use Rattle.round_search.specs.Steps.{stand_of_facts}
-use Rattle.round_search.specs.Terms.{Facts, Terms}
-use Rattle.round_search.specs.Tasks.{Task}
+use Rattle.round_terms.specs.Steps.{stand_of_facts}
+use Rattle.round_terms.specs.Terms.{Facts, Terms}
+use Rattle.round_terms.specs.Tasks.{Task}
 
 -- ---- rounds
 
@@ -136,26 +136,3 @@ pub record AreMarksTo {F M : Type 0} (task : Task F M) (round : Round F M) (n : 
 -- or with those of all
 abbrev pub AreMarks : {F M : Type 0} → Task F M → Round F M → Marks → Type 0
 AreMarks task round = AreMarksTo task round (length round.labels.now)
-
--- ---- rides that are tried
-
--- what the search may lack lies behind these limits for rides from such facts
-pub record AreLimits {F M : Type 0} (task : Task F M) (finals : List Final) (a : Facts F) (limits : Limits) : Type 0 where
-  pub all : IsFair task finals a IsAnyRide (cutoff_of limits.latest)
-  pub late : IsFair task finals a (DepartsAfter limits.since.0) (cutoff_of limits.late)
-  pub after : IsCutAfter task finals a limits.after.0
-
--- the ride lies behind them: it arrives too late, or departs later than the moment and arrives too late for that, or all is cut off
--- behind it
-abbrev pub IsBehind : Limits → RideFacts → Type 0
-IsBehind limits facts =
-    (is_early (cutoff_of limits.latest) facts.to.0 facts.arrival.0 ≡ false)
-    ⊎ (((limits.since.0 <ℤ facts.departure.0) × (is_early (cutoff_of limits.late) facts.to.0 facts.arrival.0 ≡ false))
-    ⊎ (limits.after.0 <ℤ facts.arrival.0))
-
--- rides serve for such facts at the position: among them are those from there that arrive early enough, by a cutoff that is fair to
--- them
-pub record ServeFor {F M : Type 0} (task : Task F M) (round : Round F M) (a : Facts F) (reached : Reached) (rides : List CaughtRide) : Type 0 where
-  pub latest : CutoffOf
-  pub fair : IsFair task round.finals.now a IsAnyRide latest
-  pub holds : HoldsFrom round.positions.now latest reached rides

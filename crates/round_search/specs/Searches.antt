@@ -12,15 +12,16 @@ use Rattle.label_bag.specs.Bags.{AreApart}
 use Rattle.search_laws.specs.Links.{CoversStarts, Told}
 use Rattle.search_laws.specs.Stores.{AreClosedTo, AreStored, AreWhole, Search, Spreads}
 use Rattle.search_laws.specs.Ways.{IsReached}
-use Rattle.round_search.specs.declared.label.Label.{Label}
+use Rattle.round_terms.specs.declared.label.Label.{Label}
+use Rattle.round_search.specs.declared.search.Found.{Found}
 use Rattle.round_search.specs.declared.search.Source.{Source}
-use Rattle.round_search.specs.declared.finals.Final.{Final}
+use Rattle.round_terms.specs.declared.finals.Final.{Final}
 use Rattle.round_search.specs.Cuts.{Cuts, IsFoundBy, Lacks}
 use Rattle.round_search.specs.Finals.{AddsEnds, EndsBelow, IsFinal, is_bettered}
-use Rattle.round_search.specs.Labels.{covers, facts_of}
-use Rattle.round_search.specs.Steps.{IsEnd, IsStep, stand_of_facts, start_facts, ways}
-use Rattle.round_search.specs.Terms.{Facts, Terms, facts_after}
-use Rattle.round_search.specs.Tasks.{Task}
+use Rattle.round_terms.specs.Labels.{covers, facts_of}
+use Rattle.round_terms.specs.Steps.{IsEnd, IsStep, stand_of_facts, start_facts, ways}
+use Rattle.round_terms.specs.Terms.{Facts, Terms, facts_after}
+use Rattle.round_terms.specs.Tasks.{Task}
 
 -- ---- the search
 
@@ -135,15 +136,14 @@ pub record AreEnding {F M : Type 0} (task : Task F M) (labels : List (Label F M)
 
 -- the labels with up to so many rides are those in the bags; they cover the starts, and all that leads on from those with fewer
 -- rides; the last of them begin at the number; and the finals are what they end in
-pub record IsGathered {F M : Type 0} (task : Task F M) (rides begin : ℕ)
-    (labels bags : List (Label F M)) (finals : List Final) : Type 0 where
-  pub stored : AreStored (search_of task) (rides + 1) labels bags
+pub record IsGathered {F M : Type 0} (task : Task F M) (rides : ℕ) (found : Found F M) (bags : List (Label F M)) : Type 0 where
+  pub stored : AreStored (search_of task) (rides + 1) found.labels.items bags
   pub apart : AreApart (covers task.at_most) bags
-  pub closed : AreClosedTo (search_of task) (Lacks task finals) rides labels
-  pub starts : CoversStarts (ways task) (told task) labels
-  pub ended : AddsEnds task labels (EndsBelow task labels (length labels)) [] finals
-  pub numbers : length labels < 2 ^ 32
-  pub last : AreLast rides begin labels
+  pub closed : AreClosedTo (search_of task) (Lacks task found.front) rides found.labels.items
+  pub starts : CoversStarts (ways task) (told task) found.labels.items
+  pub ended : AddsEnds task found.labels.items (EndsBelow task found.labels.items (length found.labels.items)) [] found.front
+  pub numbers : length found.labels.items < 2 ^ 32
+  pub last : AreLast rides found.begin found.labels.items
 
 -- the labels of all rounds cover the starts and each step from each of them but what the search may lack, and none covers another; the
 -- finals are what they end in; and where the search isn't loose, all in which its ways end is found

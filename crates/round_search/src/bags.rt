@@ -4,14 +4,13 @@ ghost use Rattle.label_bag.specs.Bags.{AreApart, Gathers, IsUncovered, covers as
 ghost use Rattle.search_laws.specs.Stores.{Takes};
 ghost use Rattle.std.specs.Map.{values_of};
 ghost use Rattle.round_search.specs.Bags.{IsBag, gathered, has_rides, in_all, in_bags};
-ghost use Rattle.round_search.specs.Labels.{covers};
-ghost use Rattle.round_search.specs.declared.label.Label.{Label};
+ghost use Rattle.round_terms.specs.Labels.{covers};
+ghost use Rattle.round_terms.specs.declared.label.Label.{Label};
 
-use crate::classes::{Classed, StopClass};
-use crate::label::Label;
 use indexmap::IndexMap;
 use label_bag::{add_in_class, is_covered_in_class};
 use label_order::LabelOrder;
+use round_terms::{Classed, Label, StopClass};
 use std::alloc::{AllocError, Global};
 use std::marker::Model;
 
@@ -29,7 +28,7 @@ impl<F: LabelOrder + Copy, M: Copy> Drop for StopBag<F, M> {
 
 impl<F: LabelOrder + Copy, M: Copy> Model for StopBag<F, M> {
     ghost use Rattle.std.specs.Prelude.{List};
-    ghost use Rattle.round_search.specs.declared.label.Label.{Label};
+    ghost use Rattle.round_terms.specs.declared.label.Label.{Label};
 
     ghost Value = { List (Label F M) };
 

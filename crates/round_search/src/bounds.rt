@@ -6,20 +6,19 @@ ghost use Rattle.feed_rows.specs.declared.fares.Triple.{Triple};
 ghost use Rattle.plan_rides.specs.InTime.{IsUsualQuery, deadline};
 ghost use Rattle.plan_rides.specs.Spans.{stands_of};
 ghost use Rattle.search_laws.specs.Ways.{LeadsBy};
-ghost use Rattle.round_search.specs.declared.finals.Final.{Final};
-ghost use Rattle.round_search.specs.Bounds.{AreFoundBy, AreUntils, CostBy, IsCutAfter, IsFoundUntil, IsLateIf, IsUntil, IsUntilBy};
+ghost use Rattle.round_terms.specs.declared.finals.Final.{Final};
+ghost use Rattle.round_terms.specs.Costs.{IsLateIf};
+ghost use Rattle.round_search.specs.Bounds.{AreFoundBy, AreUntils, CostBy, IsCutAfter, IsFoundUntil, IsUntil, IsUntilBy};
 ghost use Rattle.round_search.specs.Cuts.{Lacks, has_ahead, is_ahead, is_cut, is_within};
-ghost use Rattle.round_search.specs.Labels.{facts_of};
+ghost use Rattle.round_terms.specs.Labels.{facts_of};
 ghost use Rattle.round_search.specs.Searches.{IsFit};
-ghost use Rattle.round_search.specs.Steps.{ways};
-ghost use Rattle.round_search.specs.Tasks.{task_of};
+ghost use Rattle.round_terms.specs.Steps.{ways};
+ghost use Rattle.round_terms.specs.Tasks.{task_of};
 
-use crate::finals::Final;
-use crate::label::Label;
 use crate::search::Search;
-use crate::tariff::{LeastPrice, Tariff};
 use feed_rows::Triple;
 use plan_rides::deadline;
+use round_terms::{Final, Label, LeastPrice, Tariff};
 use transit_base::{Moment, Secs, StopId};
 
 /// Whether the triple arrives no later than this moment, with no more rides than so many, and costs no more than this.
@@ -81,7 +80,7 @@ fn earlier(a: Moment, b: Moment) -> Moment
 }
 
 /// The later of both.
-fn later(a: Moment, b: Moment) -> Moment
+pub(crate) fn later(a: Moment, b: Moment) -> Moment
     ensures first { a.0 ≤ℤ result.0 }
     ensures second { b.0 ≤ℤ result.0 }
     ensures is { (result ≡ a) ⊎ (result ≡ b) }

@@ -2,19 +2,15 @@
 //! of all labels those stay that no other is as good as.
 #![tactic(auto)]
 
-mod aim;
 mod bags;
 mod bounds;
-mod classes;
-mod finals;
-mod label;
+mod kept;
+mod offers;
+mod room;
 mod scan;
 mod search;
-mod tariff;
+mod seen;
+mod settled;
 
-pub use aim::Aim;
-pub use classes::Classed;
-pub use finals::Final;
-pub use label::Label;
+pub use room::Room;
 pub use search::Search;
-pub use tariff::{LeastPrice, Tariff};

@@ -2,7 +2,7 @@ use Rattle.std.proofs.Common.{subst}
 use Rattle.std.specs.Prelude.{IfOk}
 use Rattle.round_search.specs.NoSpans.{none_spans}
 use Rattle.round_search.specs.Searches.{IsSearched}
-use Rattle.round_search.specs.Tasks.{Asked, task_of}
+use Rattle.round_terms.specs.Tasks.{Asked, task_of}
 use Rattle.plan_arrivals.specs.declared.no_fares.NoFares.{NoFares}
 use Rattle.plan_arrivals.specs.NoFares.{any, no_fares}
 use Rattle.plan_arrivals.proofs.earliest.labels_by.Goals as goal

@@ -4,7 +4,7 @@ use Rattle.std.specs.Prelude.{OnOk}
 use Rattle.std.proofs.lemmas.Result.{on_ok_weaker}
 use Rattle.label_bag.specs.Bags.{AreApart}
 use Rattle.round_search.specs.Bags.{gathered, has_rides, in_all, in_bags}
-use Rattle.round_search.specs.Labels.{covers}
+use Rattle.round_terms.specs.Labels.{covers}
 use Rattle.round_search.proofs.BagLaws.{gathers_both}
 use Rattle.round_search.proofs.ClassLaws.{bags_apart}
 use Rattle.round_search.proofs.bags.StopBags.gather.Goals as goal

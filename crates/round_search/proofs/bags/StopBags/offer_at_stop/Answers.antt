@@ -7,7 +7,7 @@ use Rattle.std.proofs.lemmas.Result.{on_ok_weaker}
 use Rattle.label_bag.specs.Bags.{IsUncovered, covers as has_cover}
 use Rattle.search_laws.specs.Stores.{Takes}
 use Rattle.round_search.specs.Bags.{IsBag, IsBagOf, IsOf, in_all, in_bags}
-use Rattle.round_search.specs.Labels.{covers}
+use Rattle.round_terms.specs.Labels.{covers}
 use Rattle.round_search.proofs.BagLaws.{bags_set, each_after, takes_set}
 use Rattle.round_search.proofs.TakeLaws.{covered_joined, takes_first, takes_none, uncovered_of}
 use Rattle.round_search.proofs.bags.StopBags.offer_at_stop.Goals as goal

@@ -10,9 +10,9 @@ use Rattle.indexmap.proofs.CallerLemmas.{insert_entry-new}
 use Rattle.label_bag.specs.Bags.{IsUncovered, covers as has_cover}
 use Rattle.search_laws.specs.Stores.{Takes}
 use Rattle.round_search.specs.Bags.{AreClassBags, IsBagOf, IsOf, bag_at, in_all, in_bags}
-use Rattle.round_search.specs.Classes.{same_key}
-use Rattle.round_search.specs.CoverLaws.{cover_laws}
-use Rattle.round_search.specs.Labels.{covers}
+use Rattle.round_terms.specs.Classes.{same_key}
+use Rattle.round_terms.specs.CoverLaws.{cover_laws}
+use Rattle.round_terms.specs.Labels.{covers}
 use Rattle.round_search.proofs.BagLaws.{each_after, one_bag, takes_set}
 use Rattle.round_search.proofs.ClassLaws.{classes_push, classes_set, found_bag, in_push_values, key_of, none_there, of_same_key, own_key, set_values}
 use Rattle.round_search.proofs.TakeLaws.{covered_joined, takes_none, takes_push, takes_second, uncovered_of}

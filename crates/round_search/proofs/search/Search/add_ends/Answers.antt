@@ -1,7 +1,7 @@
 use Rattle.std.proofs.Common.{refl, length}
 use Rattle.std.proofs.lemmas.Option.{slice_get_read}
 use Rattle.round_search.proofs.FinalLaws.{below_all, ends_more, ends_same, labels_more}
-use Rattle.round_search.specs.Tasks.{task_of}
+use Rattle.round_terms.specs.Tasks.{task_of}
 use Rattle.round_search.proofs.search.Search.add_ends.Goals as goal
 
 pub loop-number-init : goal.loop-number-init

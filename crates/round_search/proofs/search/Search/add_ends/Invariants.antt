@@ -1,6 +1,6 @@
 use Rattle.std.proofs.Common.{[]}
 use Rattle.round_search.specs.Finals.{AddsEnds, EndsBelow}
-use Rattle.round_search.specs.Tasks.{task_of}
+use Rattle.round_terms.specs.Tasks.{task_of}
 use Rattle.round_search.proofs.search.Search.add_ends.Given as goal
 
 abbrev pub invariant-loop-number : goal.invariant-loop-number

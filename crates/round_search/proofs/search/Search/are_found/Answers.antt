@@ -3,8 +3,8 @@ use Rattle.std.specs.Prelude.{Some, slice_get}
 use Rattle.plan_rides.specs.Spans.{AreSpans, stands_of}
 use Rattle.round_search.specs.Bounds.{CostBy}
 use Rattle.round_search.specs.Cuts.{has_ahead}
-use Rattle.round_search.specs.Labels.{facts_of}
-use Rattle.round_search.specs.Tasks.{Asked, task_of}
+use Rattle.round_terms.specs.Labels.{facts_of}
+use Rattle.round_terms.specs.Tasks.{Asked, task_of}
 use Rattle.round_search.proofs.BoundLaws.{found_early, found_none}
 use Rattle.round_search.proofs.search.Search.are_found.Goals as goal
 

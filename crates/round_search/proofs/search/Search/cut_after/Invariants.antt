@@ -1,7 +1,7 @@
 -- A moment that was found so far.
 use Rattle.round_search.specs.Bounds.{IsCutAfter}
-use Rattle.round_search.specs.Labels.{facts_of}
-use Rattle.round_search.specs.Tasks.{task_of}
+use Rattle.round_terms.specs.Labels.{facts_of}
+use Rattle.round_terms.specs.Tasks.{task_of}
 use Rattle.round_search.proofs.search.Search.cut_after.Given as goal
 
 abbrev pub invariant-loop-k : goal.invariant-loop-k

@@ -2,7 +2,7 @@ use Rattle.std.proofs.Common.{◌≡◌, true, sym, subst}
 use Rattle.plan_rides.specs.Cutoffs.{cutoff_by}
 use Rattle.plan_rides.specs.Spans.{AreSpans, no_spans}
 use Rattle.round_search.specs.Bounds.{DepartsAfter, IsAnyRide, IsFair}
-use Rattle.round_search.specs.Tasks.{Asked, task_of}
+use Rattle.round_terms.specs.Tasks.{Asked, task_of}
 use Rattle.round_search.proofs.BoundLaws.{fair_by}
 use Rattle.round_search.proofs.search.Search.cutoffs_by.Goals as goal
 

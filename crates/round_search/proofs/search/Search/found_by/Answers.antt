@@ -2,7 +2,7 @@ use Rattle.std.proofs.Common.{List, ap, inr, slice_index_or, subst}
 use Rattle.std.proofs.lemmas.List.Elements.{Contains-get_or}
 use Rattle.feed_rows.specs.declared.fares.Triple.{Triple}
 use Rattle.round_search.specs.Cuts.{is_given}
-use Rattle.round_search.specs.Tasks.{Asked, task_of}
+use Rattle.round_terms.specs.Tasks.{Asked, task_of}
 use Rattle.round_search.proofs.BoundLaws.{found_sooner, no_triple}
 use Rattle.round_search.proofs.FoundLaws.{given_itself}
 use Rattle.round_search.proofs.search.Search.found_by.Goals as goal

@@ -1,5 +1,5 @@
 use Rattle.round_search.specs.Bounds.{IsFoundUntil}
-use Rattle.round_search.specs.Tasks.{task_of}
+use Rattle.round_terms.specs.Tasks.{task_of}
 use Rattle.round_search.proofs.search.Search.found_by.Given as goal
 
 abbrev pub invariant-loop-k : goal.invariant-loop-k

@@ -2,7 +2,7 @@ use Rattle.std.proofs.Common.{◌≡◌, sym, ◌∙◌, subst, [], ◌++◌, le
 use Rattle.round_search.specs.Bags.{gathered, in_bags}
 use Rattle.round_search.specs.Finals.{AddsEnds, EndsBelow}
 use Rattle.round_search.proofs.FinalLaws.{ends_longer}
-use Rattle.round_search.specs.Tasks.{task_of}
+use Rattle.round_terms.specs.Tasks.{task_of}
 use Rattle.round_search.proofs.search.Search.gather.Goals as goal
 
 pub add_ends-requires-clause-before : goal.add_ends-requires-clause-before

@@ -2,8 +2,8 @@ use Rattle.std.proofs.Common.{[], sym, ◌∙◌, ap, subst}
 use Rattle.std.specs.Prelude.{Some, not, slice_get}
 use Rattle.std.proofs.lemmas.Bool.{ne_eqb}
 use Rattle.plan_rides.specs.Spans.{AreSpans, stands_of}
-use Rattle.round_search.specs.Labels.{facts_of}
-use Rattle.round_search.specs.Tasks.{Asked, task_of}
+use Rattle.round_terms.specs.Labels.{facts_of}
+use Rattle.round_terms.specs.Tasks.{Asked, task_of}
 use Rattle.round_search.proofs.BoundLaws.{leads_not, none_of}
 use Rattle.round_search.proofs.search.Search.is_off.Goals as goal
 

@@ -1,7 +1,7 @@
 use Rattle.std.proofs.Common.{ℕ, ◌<◌}
 use Rattle.round_search.specs.Bounds.{AreFoundBy}
-use Rattle.round_search.specs.Labels.{facts_of}
-use Rattle.round_search.specs.Tasks.{task_of}
+use Rattle.round_terms.specs.Labels.{facts_of}
+use Rattle.round_terms.specs.Tasks.{task_of}
 use Rattle.round_search.proofs.search.Search.is_useless.Given as goal
 
 abbrev pub invariant-loop-further : goal.invariant-loop-further

@@ -5,11 +5,11 @@ use Rattle.search_laws.proofs.StoreLaws.{few_more, fit_more, starts_covered, sto
 use Rattle.round_search.specs.Bags.{gathered, in_bags}
 use Rattle.round_search.specs.Finals.{AddsEnds, EndsBelow}
 use Rattle.round_search.specs.Searches.{AreEnding, IsNever, search_of, told}
-use Rattle.round_search.specs.Steps.{ways}
+use Rattle.round_terms.specs.Steps.{ways}
 use Rattle.round_search.proofs.FinalLaws.{ends_none}
 use Rattle.round_search.proofs.LawfulLaws.{cover_test}
 use Rattle.round_search.proofs.RoundLaws.{ending_of, gathered_rides, last_first}
-use Rattle.round_search.specs.Tasks.{HasLaws, task_of}
+use Rattle.round_terms.specs.Tasks.{HasLaws, task_of}
 use Rattle.round_search.proofs.search.Search.labels.Goals as goal
 
 pub gather-requires-clause-ending : goal.gather-requires-clause-ending

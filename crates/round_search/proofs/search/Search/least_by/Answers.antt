@@ -1,7 +1,7 @@
 use Rattle.std.proofs.Common.{false, sym, ap, subst, ◌-◌}
 use Rattle.round_search.specs.Bounds.{CostBy}
-use Rattle.round_search.specs.Labels.{facts_of}
-use Rattle.round_search.specs.Tasks.{Asked, task_of}
+use Rattle.round_terms.specs.Labels.{facts_of}
+use Rattle.round_terms.specs.Tasks.{Asked, task_of}
 use Rattle.round_search.proofs.BoundLaws.{costs_more, costs_of, pred_suc}
 use Rattle.round_search.proofs.search.Search.least_by.Goals as goal
 

@@ -5,7 +5,7 @@ use Rattle.transit_base.specs.declared.moments.Moment.{Moment}
 use Rattle.plan_rides.specs.InTime.{deadline}
 use Rattle.round_search.specs.Scans.{AreMarksTo}
 use Rattle.round_search.proofs.ScanLaws.{marks_moved, marks_more, marks_none, source_of}
-use Rattle.round_search.specs.Tasks.{HasLaws, task_of}
+use Rattle.round_terms.specs.Tasks.{HasLaws, task_of}
 use Rattle.round_search.proofs.search.Search.mark.Goals as goal
 
 pub loop-number-init : goal.loop-number-init

@@ -1,5 +1,5 @@
 use Rattle.round_search.specs.Scans.{AreMarksTo}
-use Rattle.round_search.specs.Tasks.{task_of}
+use Rattle.round_terms.specs.Tasks.{task_of}
 use Rattle.round_search.proofs.search.Search.mark.Given as goal
 
 abbrev pub invariant-loop-number : goal.invariant-loop-number

@@ -3,7 +3,7 @@ use Rattle.std.proofs.lemmas.Int.{ints}
 use Rattle.transit_base.specs.declared.moments.Moment.{Moment}
 use Rattle.plan_rides.specs.InTime.{deadline}
 use Rattle.round_search.proofs.ScanLaws.{adds_cut}
-use Rattle.round_search.specs.Tasks.{HasLaws, task_of}
+use Rattle.round_terms.specs.Tasks.{HasLaws, task_of}
 use Rattle.round_search.proofs.search.Search.mark_label.Goals as goal
 
 pub is_cut-requires-clause-few : goal.is_cut-requires-clause-few

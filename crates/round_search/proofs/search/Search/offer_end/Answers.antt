@@ -2,10 +2,10 @@ use Rattle.std.proofs.Common.{refl, ◌∙◌, ap}
 use Rattle.feed_rows.specs.JourneyStands.{Stand}
 use Rattle.feed_timetable.specs.Standings.{stand_of}
 use Rattle.plan_rides.specs.InTime.{arrival_in_time}
-use Rattle.round_search.specs.declared.finals.Final.{Final}
-use Rattle.round_search.specs.Tasks.{Asked}
+use Rattle.round_terms.specs.declared.finals.Final.{Final}
+use Rattle.round_terms.specs.Tasks.{Asked}
 use Rattle.round_search.proofs.FinalLaws.{end_is, end_least, end_none, ends_offer}
-use Rattle.round_search.specs.Tasks.{task_of}
+use Rattle.round_terms.specs.Tasks.{task_of}
 use Rattle.round_search.proofs.search.Search.offer_end.Goals as goal
 
 pub returns-in_default : goal.returns-in_default

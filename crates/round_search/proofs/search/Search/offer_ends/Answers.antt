@@ -1,7 +1,7 @@
 use Rattle.std.proofs.Common.{arith}
 use Rattle.std.proofs.lemmas.Option.{slice_get-get_or}
 use Rattle.round_search.proofs.FinalLaws.{ends_more, ends_none, ends_same, stops_all, stops_more}
-use Rattle.round_search.specs.Tasks.{task_of}
+use Rattle.round_terms.specs.Tasks.{task_of}
 use Rattle.round_search.proofs.search.Search.offer_ends.Goals as goal
 
 pub loop-k-init : goal.loop-k-init

@@ -5,15 +5,15 @@ use Rattle.plan_rides.specs.Cutoffs.{cutoff_of}
 use Rattle.plan_rides.specs.Reached.{HoldsFrom, IsReachedFrom}
 use Rattle.search_laws.specs.Stores.{Spreads}
 use Rattle.search_laws.proofs.SpreadLaws.{spreads_same}
-use Rattle.round_search.specs.declared.label.Label.{Label}
+use Rattle.round_terms.specs.declared.label.Label.{Label}
 use Rattle.round_search.specs.Cuts.{Lacks}
 use Rattle.round_search.specs.Bags.{in_bags}
-use Rattle.round_search.specs.Labels.{facts_of}
+use Rattle.round_terms.specs.Labels.{facts_of}
 use Rattle.round_search.specs.Scans.{StepsAt}
 use Rattle.round_search.specs.Searches.{search_of}
-use Rattle.round_search.specs.Steps.{stand_of_facts}
+use Rattle.round_terms.specs.Steps.{stand_of_facts}
 use Rattle.round_search.proofs.ScanLaws.{lasts_in, source_of}
-use Rattle.round_search.specs.Tasks.{HasLaws, task_of}
+use Rattle.round_terms.specs.Tasks.{HasLaws, task_of}
 use Rattle.round_search.proofs.search.Search.offer_from.Goals as goal
 
 pub keep-requires-clause-lasts : goal.keep-requires-clause-lasts

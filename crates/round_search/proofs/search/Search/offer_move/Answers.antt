@@ -2,12 +2,12 @@ use Rattle.std.proofs.Common.{◌≡◌, true, false, sym, ◌∙◌, ap, subst,
 use Rattle.std.proofs.lemmas.Bool.{ne_eqb}
 use Rattle.plan_rides.proofs.DepartureLaws.{ride_end}
 use Rattle.search_laws.proofs.SpreadLaws.{spreads_none, spreads_taken}
-use Rattle.round_search.specs.declared.label.Label.{Label}
+use Rattle.round_terms.specs.declared.label.Label.{Label}
 use Rattle.round_search.specs.Bags.{in_bags}
 use Rattle.round_search.specs.Cuts.{Lacks, is_cut}
-use Rattle.round_search.specs.Labels.{facts_of}
+use Rattle.round_terms.specs.Labels.{facts_of}
 use Rattle.round_search.specs.Searches.{IsFit, search_of}
-use Rattle.round_search.specs.Tasks.{Asked, HasLaws, task_of}
+use Rattle.round_terms.specs.Tasks.{Asked, HasLaws, task_of}
 use Rattle.round_search.proofs.FoundLaws.{cut_lacks, uncut_of}
 use Rattle.round_search.proofs.LawfulLaws.{cover_test, ways_lawful}
 use Rattle.round_search.proofs.RideLaws.{after_is, fits_after, fresh_after, went_on}

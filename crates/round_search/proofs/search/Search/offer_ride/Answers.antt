@@ -3,11 +3,11 @@ use Rattle.std.proofs.lemmas.Option.{slice_get_read}
 use Rattle.search_laws.proofs.SpreadLaws.{spreads_more, spreads_none}
 use Rattle.round_search.specs.Cuts.{Lacks}
 use Rattle.round_search.specs.Bags.{in_bags}
-use Rattle.round_search.specs.Labels.{facts_of}
+use Rattle.round_terms.specs.Labels.{facts_of}
 use Rattle.round_search.specs.Searches.{search_of}
-use Rattle.round_search.specs.Terms.{AreEnough}
+use Rattle.round_terms.specs.Terms.{AreEnough}
 use Rattle.round_search.proofs.RideLaws.{leads_more, spreads_by}
-use Rattle.round_search.specs.Tasks.{Asked, HasLaws, task_of}
+use Rattle.round_terms.specs.Tasks.{Asked, HasLaws, task_of}
 use Rattle.round_search.proofs.search.Search.offer_ride.Goals as goal
 
 pub loop-k-init : goal.loop-k-init

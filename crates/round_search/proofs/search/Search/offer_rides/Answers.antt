@@ -11,7 +11,7 @@ use Rattle.round_search.specs.Searches.{search_of}
 use Rattle.round_search.proofs.RideLaws.{rides_more}
 use Rattle.round_search.proofs.ScanLaws.{by_behind, by_passed, right_from, steps_from}
 use Rattle.round_search.proofs.search.Search.offer_rides.Goals as goal
-use Rattle.round_search.specs.Tasks.{HasLaws, task_of}
+use Rattle.round_terms.specs.Tasks.{HasLaws, task_of}
 use Rattle.round_search.proofs.search.Search.offer_rides.Goals.{then-departs_since+then-is_tried+in_ok-offer_ride, then-departs_since+else-is_tried, else-departs_since}
 
 abbrev none : CaughtRide

@@ -1,7 +1,7 @@
 use Rattle.round_search.specs.Bags.{StayForStops, in_bags}
-use Rattle.round_search.specs.Labels.{facts_of}
+use Rattle.round_terms.specs.Labels.{facts_of}
 use Rattle.round_search.specs.Searches.{SpreadsFrom, StepsByFirst}
-use Rattle.round_search.specs.Tasks.{task_of}
+use Rattle.round_terms.specs.Tasks.{task_of}
 use Rattle.round_search.proofs.search.Search.offer_rides.Given as goal
 
 abbrev pub invariant-loop-k : goal.invariant-loop-k

@@ -9,12 +9,12 @@ use Rattle.round_search.specs.declared.scan.Marks.{Marks}
 use Rattle.round_search.specs.Bounds.{IsAnyRide}
 use Rattle.round_search.specs.Cuts.{Lacks}
 use Rattle.round_search.specs.Bags.{in_bags}
-use Rattle.round_search.specs.Labels.{facts_of}
+use Rattle.round_terms.specs.Labels.{facts_of}
 use Rattle.round_search.specs.Searches.{search_of}
 use Rattle.round_search.proofs.BoundLaws.{until_later}
 use Rattle.round_search.proofs.ScanLaws.{position_at, steps_all, steps_more, until_at, until_found, until_of}
 use Rattle.round_search.proofs.SourceLaws.{within_all}
-use Rattle.round_search.specs.Tasks.{HasLaws, task_of}
+use Rattle.round_terms.specs.Tasks.{HasLaws, task_of}
 use Rattle.round_search.proofs.search.Search.offer_round.Goals as goal
 
 pub cutoffs_by-cutoffs-requires : goal.cutoffs_by-cutoffs-requires

@@ -3,7 +3,7 @@ use Rattle.plan_rides.specs.Cutoffs.{cutoff_of}
 use Rattle.plan_rides.specs.Reached.{AreKept}
 use Rattle.round_search.specs.Bags.{StayForStops, in_bags}
 use Rattle.round_search.specs.Scans.{SpreadsIn, StepsAtFirst}
-use Rattle.round_search.specs.Tasks.{task_of}
+use Rattle.round_terms.specs.Tasks.{task_of}
 use Rattle.round_search.proofs.search.Search.offer_round.Given as goal
 
 abbrev pub invariant-loop-k : goal.invariant-loop-k

@@ -6,7 +6,7 @@ use Rattle.round_search.specs.Searches.{IsNever, search_of}
 use Rattle.round_search.proofs.LawfulLaws.{cover_test, ways_lawful}
 use Rattle.round_search.proofs.RideLaws.{fresh_start, start_is, started}
 use Rattle.plan_rides.proofs.StopLaws.{stands_inside}
-use Rattle.round_search.specs.Tasks.{Asked, HasLaws, task_of}
+use Rattle.round_terms.specs.Tasks.{Asked, HasLaws, task_of}
 use Rattle.round_search.proofs.search.Search.offer_start.Goals as goal
 
 pub offer-requires : goal.offer-requires

@@ -4,7 +4,7 @@ use Rattle.search_laws.proofs.SpreadLaws.{spreads_more, spreads_none, spreads_sa
 use Rattle.round_search.specs.Bags.{in_bags}
 use Rattle.round_search.specs.Searches.{IsNever, search_of}
 use Rattle.round_search.proofs.RideLaws.{starts_among, starts_one}
-use Rattle.round_search.specs.Tasks.{HasLaws, task_of}
+use Rattle.round_terms.specs.Tasks.{HasLaws, task_of}
 use Rattle.round_search.proofs.search.Search.offer_starts.Goals as goal
 
 pub loop-k-init : goal.loop-k-init

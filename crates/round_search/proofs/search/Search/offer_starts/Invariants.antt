@@ -2,7 +2,7 @@ use Rattle.std.proofs.Common.{[]}
 use Rattle.search_laws.specs.Stores.{Spreads}
 use Rattle.round_search.specs.Bags.{StayForStops, in_bags}
 use Rattle.round_search.specs.Searches.{IsNever, IsStartAmong, search_of}
-use Rattle.round_search.specs.Tasks.{task_of}
+use Rattle.round_terms.specs.Tasks.{task_of}
 use Rattle.round_search.proofs.search.Search.offer_starts.Given as goal
 
 abbrev pub invariant-loop-k : goal.invariant-loop-k

@@ -6,9 +6,9 @@ use Rattle.round_search.specs.Finals.{HasEnds}
 use Rattle.round_search.specs.Searches.{search_of}
 use Rattle.feed_rows.specs.SoundFeed.{IsSoundFeed}
 use Rattle.round_search.specs.Bags.{in_bags}
-use Rattle.round_search.specs.Tasks.{Asked}
+use Rattle.round_terms.specs.Tasks.{Asked}
 use Rattle.round_search.proofs.SourceLaws.{origin_is}
-use Rattle.round_search.specs.Tasks.{task_of}
+use Rattle.round_terms.specs.Tasks.{task_of}
 use Rattle.round_search.proofs.search.Search.spread.Goals as goal
 
 pub offer_round-requires-clause-round : goal.offer_round-requires-clause-round

@@ -6,13 +6,13 @@ use Rattle.round_search.specs.Bags.{gathered, in_bags}
 use Rattle.round_search.specs.Cuts.{Lacks}
 use Rattle.round_search.specs.Finals.{AddsEnds, EndsBelow, HasEnds}
 use Rattle.round_search.specs.Searches.{AreLast, IsGathered, search_of, told}
-use Rattle.round_search.specs.Steps.{ways}
+use Rattle.round_terms.specs.Steps.{ways}
 use Rattle.round_search.proofs.CutLaws.{bettered_still}
 use Rattle.round_search.proofs.FoundLaws.{lacks_more}
 use Rattle.round_search.proofs.LawfulLaws.{cover_test}
 use Rattle.round_search.proofs.RoundLaws.{ending_of, gathered_rides, searched_of}
 use Rattle.round_search.proofs.SourceLaws.{last_more}
-use Rattle.round_search.specs.Tasks.{HasLaws, task_of}
+use Rattle.round_terms.specs.Tasks.{HasLaws, task_of}
 use Rattle.round_search.proofs.search.Search.spread_all.Goals as goal
 
 pub loop-count-init : goal.loop-count-init

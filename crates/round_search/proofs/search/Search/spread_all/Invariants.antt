@@ -1,6 +1,6 @@
 use Rattle.round_search.specs.Bags.{AreForStops, in_bags}
 use Rattle.round_search.specs.Searches.{IsGathered}
-use Rattle.round_search.specs.Tasks.{task_of}
+use Rattle.round_terms.specs.Tasks.{task_of}
 use Rattle.round_search.proofs.search.Search.spread_all.Given as goal
 
 abbrev pub invariant-loop-count : goal.invariant-loop-count

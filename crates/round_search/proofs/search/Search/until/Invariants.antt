@@ -1,6 +1,6 @@
 use Rattle.round_search.specs.Bounds.{IsLateIf, IsUntilFirst}
-use Rattle.round_search.specs.Labels.{facts_of}
-use Rattle.round_search.specs.Tasks.{task_of}
+use Rattle.round_terms.specs.Labels.{facts_of}
+use Rattle.round_terms.specs.Tasks.{task_of}
 use Rattle.round_search.proofs.search.Search.until.Given as goal
 
 abbrev pub invariant-loop-behind : goal.invariant-loop-behind

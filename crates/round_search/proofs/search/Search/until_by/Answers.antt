@@ -4,9 +4,9 @@ use Rattle.transit_base.specs.declared.moments.Moment.{Moment}
 use Rattle.plan_rides.specs.InTime.{deadline}
 use Rattle.search_laws.specs.Ways.{LeadsBy}
 use Rattle.round_search.specs.Bounds.{CostOn, IsLateIf}
-use Rattle.round_search.specs.Labels.{facts_of}
-use Rattle.round_search.specs.Steps.{ways}
-use Rattle.round_search.specs.Tasks.{Asked, task_of}
+use Rattle.round_terms.specs.Labels.{facts_of}
+use Rattle.round_terms.specs.Steps.{ways}
+use Rattle.round_terms.specs.Tasks.{Asked, task_of}
 use Rattle.round_search.proofs.BoundLaws.{by_found, by_none, costs_of, leads_more, none_dearer}
 use Rattle.round_search.proofs.search.Search.until_by.Goals as goal
 

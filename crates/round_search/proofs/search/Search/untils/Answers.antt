@@ -1,8 +1,8 @@
 use Rattle.std.proofs.Common.{ap, subst, ℤ}
 use Rattle.plan_rides.specs.InTime.{deadline}
 use Rattle.round_search.specs.Bounds.{AreLate, DepartsAfter}
-use Rattle.round_search.specs.Labels.{facts_of}
-use Rattle.round_search.specs.Tasks.{Asked, HasLaws, task_of}
+use Rattle.round_terms.specs.Labels.{facts_of}
+use Rattle.round_terms.specs.Tasks.{Asked, HasLaws, task_of}
 use Rattle.round_search.proofs.BoundLaws.{until_any, until_late, until_some}
 use Rattle.round_search.proofs.search.Search.untils.Goals as goal
 

@@ -1,0 +1,3 @@
+pub mod LastLaws
+pub mod PriceLaws
+pub mod MoveLaws
