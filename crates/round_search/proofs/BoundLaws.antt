@@ -21,7 +21,8 @@ use Rattle.plan_rides.specs.Spans.{AreSpans, SpanLists, no_spans, stands_of}
 use Rattle.search_laws.specs.Ways.{LeadsBy}
 use Rattle.round_terms.specs.declared.finals.Final.{Final}
 use Rattle.round_terms.specs.declared.tariff.LeastPrice.{LeastPrice}
-use Rattle.round_search.specs.Bounds.{AreFoundBy, AreLate, AreUntils, CostBy, CostOn, DepartsAfter, IsAnyRide, IsCutAfter, IsDearer, IsLateIf, IsFair, IsFoundUntil, IsUntil, IsUntilBy, IsUntilFirst, LeadsOn}
+use Rattle.round_terms.specs.Costs.{AreLate, CostOn, IsDearer, IsLateIf, LeadsOn}
+use Rattle.round_search.specs.Bounds.{AreFoundBy, AreUntils, CostBy, DepartsAfter, IsAnyRide, IsCutAfter, IsFair, IsFoundUntil, IsUntil, IsUntilBy, IsUntilFirst}
 use Rattle.round_search.specs.Cuts.{IsFoundBy, Lacks, has_ahead, is_cut, is_within}
 use Rattle.round_search.specs.Searches.{StepsTo}
 use Rattle.round_terms.specs.Steps.{ways}

@@ -79,7 +79,7 @@ module _ {F M : Type 0} (task : Task F M) (laws : HasLaws task) where
     least_after a b ride move step =
         subst (λ (f : Facts F). is_no_worse (least_end task.terms a) (least_end task.terms f) ≡ true) (sym step.next)
         (parts_below (least_end task.terms a) (least_end task.terms (facts_after task.terms a step.facts move)) (later_ride a ride step.facts step.rides) (omega arith)
-        (laws.fares.least_stays a step.facts move step.fare step.pays))
+        (laws.fares.least_stays a step.facts move step.rides.few step.fare step.pays))
 
     least_ends : (a : Facts F) (last : StopId) (triple : Triple) → IsEnd task a last triple → is_no_worse (least_end task.terms a) triple ≡ true
     unfolding end_arrival

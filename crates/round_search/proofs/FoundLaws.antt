@@ -177,7 +177,7 @@ module _ {F M : Type 0} (task : Task F M) (laws : HasLaws task) where
         let ahead = found_ahead task finals step.facts.arrival.0 (a.rides + 1) (task.terms.least a) is in
         let tells = ahead_tells step.facts.arrival.0 (a.rides + 1) (task.terms.least a) ahead.triple ahead.ahead in
         let next = facts_after task.terms a step.facts move in
-        let least = laws.fares.least_stays a step.facts move step.fare step.pays in
+        let least = laws.fares.least_stays a step.facts move step.rides.few step.fare step.pays in
         subst (Lacks task finals) (sym step.next)
         (ahead_lacks ahead.triple next ahead.found
         (ahead_passes next.arrival next.rides (task.terms.least next) ahead.triple (record {

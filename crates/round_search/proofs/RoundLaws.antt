@@ -19,6 +19,7 @@ use Rattle.search_laws.proofs.CoverLaws.{each_found}
 use Rattle.search_laws.proofs.StoreLaws.{whole_of, whole_weaker}
 use Rattle.round_terms.specs.declared.finals.Final.{Final}
 use Rattle.round_terms.specs.declared.label.Label.{Label}
+use Rattle.round_search.specs.declared.search.Found.{Found}
 use Rattle.round_search.specs.Bags.{gathered}
 use Rattle.round_search.specs.Cuts.{Cuts, IsFoundBy, Lacks}
 use Rattle.round_search.specs.Finals.{IsFinal, is_bettered}
@@ -52,8 +53,13 @@ last_first {F} {M} labels none = record {
 }
 
 module _ {F M : Type 0} (task : Task F M) (laws : HasLaws task) where
-  module _ (begin : ℕ) (labels bags : List (Label F M)) (finals : List Final)
-      (are : IsGathered task task.query.rides begin labels bags finals) where
+  module _ (found : Found F M) (bags : List (Label F M)) (are : IsGathered task task.query.rides found bags) where
+    abbrev labels : List (Label F M)
+    labels = found.labels.items
+
+    abbrev finals : List Final
+    finals = found.front
+
     whole : AreWhole (search_of task) (Lacks task finals) task.query.rides labels
     whole =
         whole_of (search_of task) (cover_test task laws) (task.query.rides + 1) labels bags are.stored

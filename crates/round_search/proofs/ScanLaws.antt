@@ -1,7 +1,7 @@
 -- What the positions are that labels reach, and what is offered of the rides from them.
 use Rattle.std.proofs.Common.{◌≡◌, refl, sym, ◌∙◌, ap, subst, ℕ, ◌+◌, ◌<◌, ◌≤◌, ◌⊎◌, inl, inr, ⊎_elim, Bool, true, false, List, [], ◌∷◌, ◌++◌, length, get_or, pos, arith, ℤ, ◌<ℤ◌, ◌≤ℤ◌, ◌-◌, Vec, Global, slice_index_or}
 use Rattle.std.specs.Prelude.{Some, Result, Ok, Err, OnOk, slice_get, Contains, IsPermutation, int_le}
-use Rattle.std.proofs.lemmas.Bool.{cases_lt}
+use Rattle.std.proofs.lemmas.Bool.{both_ways, cases_lt}
 use Rattle.std.proofs.lemmas.Int.{ints}
 use Rattle.std.proofs.lemmas.List.Sorted.{Contains-permutation, IsPermutation-sym}
 use Rattle.std.specs.Vec.{vec_len}
@@ -23,14 +23,17 @@ use Rattle.round_terms.specs.declared.label.Label.{Label}
 use Rattle.round_search.specs.declared.scan.Round.{Round}
 use Rattle.round_search.specs.declared.search.Source.{Source}
 use Rattle.round_search.specs.declared.bounds.Until.{Until}
-use Rattle.round_search.specs.declared.scan.Limits.{Limits}
+use Rattle.round_search.specs.declared.offers.Limits.{Limits}
+use Rattle.round_search.specs.declared.offers.Served.{Served}
 use Rattle.round_search.specs.declared.scan.Marks.{Marks}
 use Rattle.transit_base.specs.declared.moments.Moment.{Moment}
 use Rattle.feed_rows.specs.declared.journeys.RideFacts.{RideFacts}
 use Rattle.round_search.specs.Bounds.{IsAnyRide, IsFair}
 use Rattle.round_search.specs.Cuts.{Lacks, is_cut}
 use Rattle.round_terms.specs.Labels.{facts_of}
-use Rattle.round_search.specs.Scans.{AddsLabel, AddsMarks, AreLimits, AreMarks, AreMarksTo, AreReached, AreUntilsIn, HaveUntils, IsBehind, IsMarked, IsOrigin, IsRound, StepsAmong, StepsAt, StepsAtFirst, StepsFromPosition}
+use Rattle.round_search.specs.Offers.{AreLimits, IsBehind, IsLeftOut, IsServed, ServeFor}
+use Rattle.round_search.specs.Scans.{AddsLabel, AddsMarks, AreMarks, AreMarksTo, AreReached, AreUntilsIn, HaveUntils, IsMarked, IsOrigin, IsRound, StepsAmong, StepsAt, StepsAtFirst, StepsFromPosition}
+use Rattle.round_search.specs.Settled.{ArePassed, IsDone}
 use Rattle.round_search.specs.Searches.{IsSource, StepsBy, StepsByFirst, StepsTo}
 use Rattle.round_terms.specs.Steps.{IsStep, stand_of_facts}
 use Rattle.round_terms.specs.Terms.{Facts, IsLawful, Terms}
@@ -336,15 +339,26 @@ module _ {F M : Type 0} (task : Task F M) (laws : HasLaws task) where
           step_cut task laws is.sound round.finals.now (facts_of source.label.now) b caught.ride by.0 by.1
           (are.after by.1.facts.arrival.0 (subst (λ (f : RideFacts). limits.after.0 <ℤ f.arrival.0) (sym same) after) by.1.rides.in_time)
 
-      pub by_behind : (limits : Limits) (k : ℕ) (caught : CaughtRide) (b : Facts F) → slice_get rides k ≡ Some caught →
-          int_le reached.earliest.0 caught.facts.departure.0 ≡ true → AreLimits task round.finals.now (facts_of source.label.now) limits →
-          IsBehind limits caught.facts → StepsByFirst task (facts_of source.label.now) rides (k + 1) b →
-          StepsByFirst task (facts_of source.label.now) rides k b ⊎ Lacks task round.finals.now b
-      by_behind limits k caught b at since are behind steps =
+      -- one that needn't be tried leads to what is done already, or to what the search may lack
+      left_out : {L : Type 0} (served : Served L) (bags : List (Label F M)) (caught : CaughtRide) (b : Facts F) → Contains rides caught →
+          int_le reached.earliest.0 caught.facts.departure.0 ≡ true →
+          AreLimits task round.finals.now (facts_of source.label.now) served.limits →
+          ArePassed task round.finals.now (facts_of source.label.now) reached.earliest.0 rides served.passed.0 bags →
+          IsLeftOut task served caught.facts → StepsBy task (facts_of source.label.now) caught.ride b → IsDone task round.finals.now bags b
+      left_out served bags caught b has since are passed (inl departs) by = passed caught b has since departs by
+      left_out served bags caught b has since are passed (inr (inl behind)) by =
+          inr (lacks_behind served.limits caught b are behind by (same_Some _ _ (sym by.1.rides.is ∙ (right_from caught has since).facts)))
+      left_out served bags caught b has since are passed (inr (inr loose)) by = inr (λ strict. absurd (both_ways task.loose strict loose))
+
+      pub by_left_out : {L : Type 0} (served : Served L) (bags : List (Label F M)) (k : ℕ) (caught : CaughtRide) (b : Facts F) →
+          slice_get rides k ≡ Some caught → int_le reached.earliest.0 caught.facts.departure.0 ≡ true →
+          AreLimits task round.finals.now (facts_of source.label.now) served.limits →
+          ArePassed task round.finals.now (facts_of source.label.now) reached.earliest.0 rides served.passed.0 bags →
+          IsLeftOut task served caught.facts → StepsByFirst task (facts_of source.label.now) rides (k + 1) b →
+          StepsByFirst task (facts_of source.label.now) rides k b ⊎ IsDone task round.finals.now bags b
+      by_left_out served bags k caught b at since are passed left steps =
           ⊎_elim inl
-          (λ by.
-          let right = right_from caught (Contains-slice_get rides k caught at) since in
-          inr (lacks_behind limits caught b are behind by (same_Some _ _ (sym by.1.rides.is ∙ right.facts))))
+          (λ by. inr (left_out served bags caught b (Contains-slice_get rides k caught at) since are passed left by))
           (by_ride k caught b at steps)
 
       -- each step by a ride from there is by one of them, or leads to what the search may lack

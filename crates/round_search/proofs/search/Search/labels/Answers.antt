@@ -15,7 +15,7 @@ use Rattle.round_search.proofs.search.Search.labels.Goals as goal
 pub gather-requires-clause-ending : goal.gather-requires-clause-ending
 gather-requires-clause-ending g c =
     let task = task_of g.T.Fare.LabelOrder.at_most g.T.Tariff.terms c.args.self.now in
-    let laws : HasLaws task = record { order = g.met.T.Fare.LabelOrder.laws; fares = g.met.T.Tariff.lawful c.args.self.now.tariff } in
+    let laws : HasLaws task = c.limit-limit.ensures.laws in
     let s = search_of task in
     let test = cover_test task laws in
     let new = in_bags c.offer_starts.new.bags in
@@ -37,7 +37,7 @@ gather-requires-clause-ended g c =
 pub spread_all-requires-clause-start : goal.spread_all-requires-clause-start
 spread_all-requires-clause-start g c =
     let task = task_of g.T.Fare.LabelOrder.at_most g.T.Tariff.terms c.args.self.now in
-    let laws : HasLaws task = record { order = g.met.T.Fare.LabelOrder.laws; fares = g.met.T.Tariff.lawful c.args.self.now.tariff } in
+    let laws : HasLaws task = c.limit-limit.ensures.laws in
     let s = search_of task in
     let test = cover_test task laws in
     let new = in_bags c.offer_starts.new.bags in

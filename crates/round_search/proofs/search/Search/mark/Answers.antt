@@ -11,7 +11,7 @@ use Rattle.round_search.proofs.search.Search.mark.Goals as goal
 pub loop-number-init : goal.loop-number-init
 loop-number-init g c =
     let task = task_of g.T.Fare.LabelOrder.at_most g.T.Tariff.terms c.args.self.now in
-    let laws : HasLaws task = record { order = g.met.T.Fare.LabelOrder.laws; fares = g.met.T.Tariff.lawful c.args.self.now.tariff } in
+    let laws : HasLaws task = c.limit-limit.ensures.laws in
     marks_none task laws c.args.round.now c.requires c.clear.new.self c.clear.ensures.reached c.clear.ensures.untils
     (subst (λ (m : Moment). m.0 ≤ℤ deadline task.query) (sym c.clear.ensures.last)
     (subst (λ (m : Moment). m.0 ≤ℤ deadline task.query) (sym c.departure.ensures.is) (omega (arith, ints))))
@@ -34,7 +34,7 @@ mark_label-requires-clause-counts g c =
 pub loop-number-preserved : goal.loop-number-preserved
 loop-number-preserved g c =
     let task = task_of g.T.Fare.LabelOrder.at_most g.T.Tariff.terms c.args.self.now in
-    let laws : HasLaws task = record { order = g.met.T.Fare.LabelOrder.laws; fares = g.met.T.Tariff.lawful c.args.self.now.tariff } in
+    let laws : HasLaws task = c.limit-limit.ensures.laws in
     let labels = c.args.round.now.labels.now in
     let number = c.loop-number.number in
     let at = slice_get-get_or labels number c.index-round-number.result c.loop-number-test.true in
@@ -44,7 +44,7 @@ loop-number-preserved g c =
 pub returns : goal.returns
 returns g c =
     let task = task_of g.T.Fare.LabelOrder.at_most g.T.Tariff.terms c.args.self.now in
-    let laws : HasLaws task = record { order = g.met.T.Fare.LabelOrder.laws; fares = g.met.T.Tariff.lawful c.args.self.now.tariff } in
+    let laws : HasLaws task = c.limit-limit.ensures.laws in
     let round = c.args.round.now in
     let below = c.loop-number.auto.number-end c.requires.last.within in
     let same : c.loop-number.number ≡ length round.labels.now = omega (arith, c.loop-number-test.false, below) in

@@ -15,7 +15,7 @@ is_cut-requires-clause-few g c =
 pub returns-then-is_cut : goal.returns-then-is_cut
 returns-then-is_cut g c =
     let task = task_of g.T.Fare.LabelOrder.at_most g.T.Tariff.terms c.args.self.now in
-    let laws : HasLaws task = record { order = g.met.T.Fare.LabelOrder.laws; fares = g.met.T.Tariff.lawful c.args.self.now.tariff } in
+    let laws : HasLaws task = c.limit-limit.ensures.laws in
     let push = c.push.ensures in
     adds_cut task laws c.args.round.now c.requires.round c.args.source.now c.args.marks.now c.push.new.self c.push.result
     (sym c.is_cut.ensures ∙ c.if-is_cut.true) c.departure-departure.result

@@ -19,7 +19,7 @@ use Rattle.round_search.proofs.search.Search.offer_from.Goals as goal
 pub keep-requires-clause-lasts : goal.keep-requires-clause-lasts
 keep-requires-clause-lasts g c =
     let task = task_of g.T.Fare.LabelOrder.at_most g.T.Tariff.terms c.args.self.now in
-    let laws : HasLaws task = record { order = g.met.T.Fare.LabelOrder.laws; fares = g.met.T.Tariff.lawful c.args.self.now.tariff } in
+    let laws : HasLaws task = c.limit-limit.ensures.laws in
     lasts_in task laws c.args.round.now c.requires.round (cutoff_of c.args.cutoffs.now.latest) (cutoff_of c.args.cutoffs.now.lasts) c.requires.lasts
 
 pub limits-limits-requires-clause-fit : goal.limits-limits-requires-clause-fit

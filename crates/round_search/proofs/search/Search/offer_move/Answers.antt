@@ -22,7 +22,7 @@ is_useless-requires-clause-ridden g c = ne_eqb (c.args.source.now.label.now.ride
 pub is_useless-requires-clause-fit : goal.is_useless-requires-clause-fit
 is_useless-requires-clause-fit g c =
     let task = task_of g.T.Fare.LabelOrder.at_most g.T.Tariff.terms c.args.self.now in
-    let laws : HasLaws task = record { order = g.met.T.Fare.LabelOrder.laws; fares = g.met.T.Tariff.lawful c.args.self.now.tariff } in
+    let laws : HasLaws task = c.limit-limit.ensures.laws in
     let source = c.args.source.now in
     let caught = c.args.caught.now in
     let taken = c.args.taken.now in
@@ -36,7 +36,7 @@ is_useless-requires-clause-fit g c =
 pub returns-then-is_useless-clause-spreads : goal.returns-then-is_useless-clause-spreads
 returns-then-is_useless-clause-spreads g c =
     let task = task_of g.T.Fare.LabelOrder.at_most g.T.Tariff.terms c.args.self.now in
-    let laws : HasLaws task = record { order = g.met.T.Fare.LabelOrder.laws; fares = g.met.T.Tariff.lawful c.args.self.now.tariff } in
+    let laws : HasLaws task = c.limit-limit.ensures.laws in
     let source = c.args.source.now in
     let caught = c.args.caught.now in
     let taken = c.args.taken.now in
@@ -51,7 +51,7 @@ returns-then-is_useless-clause-spreads g c =
 pub is_cut-requires-clause-fare : goal.is_cut-requires-clause-fare
 is_cut-requires-clause-fare g c =
     let task = task_of g.T.Fare.LabelOrder.at_most g.T.Tariff.terms c.args.self.now in
-    let laws : HasLaws task = record { order = g.met.T.Fare.LabelOrder.laws; fares = g.met.T.Tariff.lawful c.args.self.now.tariff } in
+    let laws : HasLaws task = c.limit-limit.ensures.laws in
     let source = c.args.source.now in
     let caught = c.args.caught.now in
     let taken = c.args.taken.now in
@@ -71,7 +71,7 @@ is_cut-requires-clause-few g c =
 pub returns-then-is_cut-clause-spreads : goal.returns-then-is_cut-clause-spreads
 returns-then-is_cut-clause-spreads g c =
     let task = task_of g.T.Fare.LabelOrder.at_most g.T.Tariff.terms c.args.self.now in
-    let laws : HasLaws task = record { order = g.met.T.Fare.LabelOrder.laws; fares = g.met.T.Tariff.lawful c.args.self.now.tariff } in
+    let laws : HasLaws task = c.limit-limit.ensures.laws in
     let source = c.args.source.now in
     let caught = c.args.caught.now in
     let taken = c.args.taken.now in
@@ -92,7 +92,7 @@ offer-requires g c =
 pub returns-clause-spreads : goal.returns-clause-spreads
 returns-clause-spreads g c =
     let task = task_of g.T.Fare.LabelOrder.at_most g.T.Tariff.terms c.args.self.now in
-    let laws : HasLaws task = record { order = g.met.T.Fare.LabelOrder.laws; fares = g.met.T.Tariff.lawful c.args.self.now.tariff } in
+    let laws : HasLaws task = c.limit-limit.ensures.laws in
     let source = c.args.source.now in
     let caught = c.args.caught.now in
     let taken = c.args.taken.now in

@@ -25,7 +25,7 @@ offer_move-requires-clause-stops g c = c.loop-k.invariant.stops ∙ c.requires.s
 pub loop-k-preserved : goal.loop-k-preserved
 loop-k-preserved g c =
     let task = task_of g.T.Fare.LabelOrder.at_most g.T.Tariff.terms c.args.self.now in
-    let laws : HasLaws task = record { order = g.met.T.Fare.LabelOrder.laws; fares = g.met.T.Tariff.lawful c.args.self.now.tariff } in
+    let laws : HasLaws task = c.limit-limit.ensures.laws in
     let source = c.args.source.now in
     let moves = c.moves_into.new.moves in
     let lt : c.loop-k.k < length moves.items = omega (arith, c.loop-k-test.true, c.len-k-end.ensures, moves.ok.0) in
@@ -41,7 +41,7 @@ loop-k-preserved g c =
 pub returns-clause-spreads : goal.returns-clause-spreads
 returns-clause-spreads g c =
     let task = task_of g.T.Fare.LabelOrder.at_most g.T.Tariff.terms c.args.self.now in
-    let laws : HasLaws task = record { order = g.met.T.Fare.LabelOrder.laws; fares = g.met.T.Tariff.lawful c.args.self.now.tariff } in
+    let laws : HasLaws task = c.limit-limit.ensures.laws in
     let source = c.args.source.now in
     let caught = c.args.caught.now in
     let moves = c.moves_into.new.moves in

@@ -33,7 +33,7 @@ loop-k-init g c =
 pub offer_ride-requires-clause-right : goal.offer_ride-requires-clause-right
 offer_ride-requires-clause-right g c =
     let task = task_of g.T.Fare.LabelOrder.at_most g.T.Tariff.terms c.args.self.now in
-    let laws : HasLaws task = record { order = g.met.T.Fare.LabelOrder.laws; fares = g.met.T.Tariff.lawful c.args.self.now.tariff } in
+    let laws : HasLaws task = c.limit-limit.ensures.laws in
     let rides = c.args.rides.now in
     let serve = c.requires.serve in
     right_from task laws c.args.round.now c.requires.round c.args.source.now c.requires.source c.args.reached.now serve.latest rides
@@ -52,7 +52,7 @@ offer_ride-requires-clause-stops g c = c.loop-k.invariant.stops ∙ c.requires.s
 pub loop-k-preserved : goal.loop-k-preserved
 loop-k-preserved g c =
     let task = task_of g.T.Fare.LabelOrder.at_most g.T.Tariff.terms c.args.self.now in
-    let laws : HasLaws task = record { order = g.met.T.Fare.LabelOrder.laws; fares = g.met.T.Tariff.lawful c.args.self.now.tariff } in
+    let laws : HasLaws task = c.limit-limit.ensures.laws in
     let round = c.args.round.now in
     let source = c.args.source.now in
     let reached = c.args.reached.now in
@@ -88,7 +88,7 @@ loop-k-preserved g c =
 pub returns-clause-spreads : goal.returns-clause-spreads
 returns-clause-spreads g c =
     let task = task_of g.T.Fare.LabelOrder.at_most g.T.Tariff.terms c.args.self.now in
-    let laws : HasLaws task = record { order = g.met.T.Fare.LabelOrder.laws; fares = g.met.T.Tariff.lawful c.args.self.now.tariff } in
+    let laws : HasLaws task = c.limit-limit.ensures.laws in
     let round = c.args.round.now in
     let source = c.args.source.now in
     let rides = c.args.rides.now in

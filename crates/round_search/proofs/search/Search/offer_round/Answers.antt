@@ -62,7 +62,7 @@ overflow_cast-reached g c =
 pub index-until-requires : goal.index-until-requires
 index-until-requires g c =
     let task = task_of g.T.Fare.LabelOrder.at_most g.T.Tariff.terms c.args.self.now in
-    let laws : HasLaws task = record { order = g.met.T.Fare.LabelOrder.laws; fares = g.met.T.Tariff.lawful c.args.self.now.tariff } in
+    let laws : HasLaws task = c.limit-limit.ensures.laws in
     let marks = c.mark.new.marks in
     let list = marks.reached in
     let x = c.index.result.now in
@@ -93,7 +93,7 @@ offer_from-requires-clause-lasts g c = c.cutoffs_by-cutoffs.ensures.lasts
 pub offer_from-requires-clause-fair : goal.offer_from-requires-clause-fair
 offer_from-requires-clause-fair g c y there =
     let task = task_of g.T.Fare.LabelOrder.at_most g.T.Tariff.terms c.args.self.now in
-    let laws : HasLaws task = record { order = g.met.T.Fare.LabelOrder.laws; fares = g.met.T.Tariff.lawful c.args.self.now.tariff } in
+    let laws : HasLaws task = c.limit-limit.ensures.laws in
     let marks = c.mark.new.marks in
     let list = marks.reached in
     let x = c.index.result.now in
@@ -112,7 +112,7 @@ offer_from-requires-clause-fair g c y there =
 pub offer_from-requires-clause-until : goal.offer_from-requires-clause-until
 offer_from-requires-clause-until g c y there =
     let task = task_of g.T.Fare.LabelOrder.at_most g.T.Tariff.terms c.args.self.now in
-    let laws : HasLaws task = record { order = g.met.T.Fare.LabelOrder.laws; fares = g.met.T.Tariff.lawful c.args.self.now.tariff } in
+    let laws : HasLaws task = c.limit-limit.ensures.laws in
     let marks = c.mark.new.marks in
     let list = marks.reached in
     let x = c.index.result.now in
@@ -129,7 +129,7 @@ offer_from-requires-clause-until g c y there =
 pub loop-k-preserved : goal.loop-k-preserved
 loop-k-preserved g c =
     let task = task_of g.T.Fare.LabelOrder.at_most g.T.Tariff.terms c.args.self.now in
-    let laws : HasLaws task = record { order = g.met.T.Fare.LabelOrder.laws; fares = g.met.T.Tariff.lawful c.args.self.now.tariff } in
+    let laws : HasLaws task = c.limit-limit.ensures.laws in
     let marks = c.mark.new.marks in
     let list = marks.reached in
     let x = c.index.result.now in
@@ -148,7 +148,7 @@ loop-k-preserved g c =
 pub returns-clause-spreads : goal.returns-clause-spreads
 returns-clause-spreads g c =
     let task = task_of g.T.Fare.LabelOrder.at_most g.T.Tariff.terms c.args.self.now in
-    let laws : HasLaws task = record { order = g.met.T.Fare.LabelOrder.laws; fares = g.met.T.Tariff.lawful c.args.self.now.tariff } in
+    let laws : HasLaws task = c.limit-limit.ensures.laws in
     let round = c.args.round.now in
     let labels = round.labels.now in
     let list = c.mark.new.marks.reached in

@@ -17,7 +17,7 @@ offer-requires g c =
 pub returns-clause-spreads : goal.returns-clause-spreads
 returns-clause-spreads g c =
     let task = task_of g.T.Fare.LabelOrder.at_most g.T.Tariff.terms c.args.self.now in
-    let laws : HasLaws task = record { order = g.met.T.Fare.LabelOrder.laws; fares = g.met.T.Tariff.lawful c.args.self.now.tariff } in
+    let laws : HasLaws task = c.limit-limit.ensures.laws in
     spreads_taken (search_of task) (ways_lawful task laws) (cover_test task laws)
     IsNever [] 0 c.offer.result (in_bags c.args.bags.now) (in_bags c.offer.new.self) _
     (started task laws c.args.first) c.offer.ensures.takes

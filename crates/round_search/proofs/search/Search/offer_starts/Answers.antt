@@ -22,7 +22,7 @@ offer_start-requires-clause-stops g c = c.loop-k.invariant.stops ∙ c.requires
 pub loop-k-preserved : goal.loop-k-preserved
 loop-k-preserved g c =
     let task = task_of g.T.Fare.LabelOrder.at_most g.T.Tariff.terms c.args.self.now in
-    let laws : HasLaws task = record { order = g.met.T.Fare.LabelOrder.laws; fares = g.met.T.Tariff.lawful c.args.self.now.tariff } in
+    let laws : HasLaws task = c.limit-limit.ensures.laws in
     record {
       spreads = spreads_more (search_of task) IsNever [] 0 _ _ _ _ _ _ c.loop-k.invariant.spreads c.in_ok-offer_start.ensures.spreads
           (λ b. starts_one task laws c.firsts-firsts.result.now c.loop-k.k _ b (slice_get-get_or _ c.loop-k.k _ c.loop-k-test.true));
@@ -32,7 +32,7 @@ loop-k-preserved g c =
 pub returns-clause-spreads : goal.returns-clause-spreads
 returns-clause-spreads g c =
     let task = task_of g.T.Fare.LabelOrder.at_most g.T.Tariff.terms c.args.self.now in
-    let laws : HasLaws task = record { order = g.met.T.Fare.LabelOrder.laws; fares = g.met.T.Tariff.lawful c.args.self.now.tariff } in
+    let laws : HasLaws task = c.limit-limit.ensures.laws in
     spreads_same (search_of task) IsNever [] 0 _ _ _ _ c.loop-k.invariant.spreads
     (λ b. starts_among task laws c.firsts-firsts.result.now c.loop-k.k b c.firsts-firsts.ensures c.loop-k-test.false)
 

@@ -15,7 +15,7 @@ cutoffs_by-cutoffs-requires g c = c.requires.until.within
 pub returns : goal.returns
 returns g c =
     let task = task_of g.T.Fare.LabelOrder.at_most g.T.Tariff.terms c.args.self.now in
-    let laws : HasLaws task = record { order = g.met.T.Fare.LabelOrder.laws; fares = g.met.T.Tariff.lawful c.args.self.now.tariff } in
+    let laws : HasLaws task = c.limit-limit.ensures.laws in
     let round = c.args.round.now in
     let source = c.args.source.now in
     let old = c.args.reached.now.items in

@@ -43,7 +43,7 @@ spread-requires-clause-stops g c = c.loop-count.invariant.stops
 pub gather-requires-clause-ending : goal.gather-requires-clause-ending
 gather-requires-clause-ending g c =
     let task = task_of g.T.Fare.LabelOrder.at_most g.T.Tariff.terms c.args.self.now in
-    let laws : HasLaws task = record { order = g.met.T.Fare.LabelOrder.laws; fares = g.met.T.Tariff.lawful c.args.self.now.tariff } in
+    let laws : HasLaws task = c.limit-limit.ensures.laws in
     let s = search_of task in
     let test = cover_test task laws in
     let was = c.loop-count.invariant.are in
@@ -65,7 +65,7 @@ gather-requires-clause-ended g c = c.loop-count.invariant.are.ended
 pub loop-count-preserved : goal.loop-count-preserved
 loop-count-preserved g c =
     let task = task_of g.T.Fare.LabelOrder.at_most g.T.Tariff.terms c.args.self.now in
-    let laws : HasLaws task = record { order = g.met.T.Fare.LabelOrder.laws; fares = g.met.T.Tariff.lawful c.args.self.now.tariff } in
+    let laws : HasLaws task = c.limit-limit.ensures.laws in
     let s = search_of task in
     let test = cover_test task laws in
     let was = c.loop-count.invariant.are in
@@ -102,7 +102,7 @@ loop-count-preserved g c =
 pub returns : goal.returns
 returns g c =
     let task = task_of g.T.Fare.LabelOrder.at_most g.T.Tariff.terms c.args.self.now in
-    let laws : HasLaws task = record { order = g.met.T.Fare.LabelOrder.laws; fares = g.met.T.Tariff.lawful c.args.self.now.tariff } in
+    let laws : HasLaws task = c.limit-limit.ensures.laws in
     searched_of task laws c.loop-count.begin c.loop-count.labels.items (in_bags c.loop-count.bags) c.loop-count.front
     (subst (λ n. IsGathered task n c.loop-count.begin c.loop-count.labels.items (in_bags c.loop-count.bags) c.loop-count.front)
     (omega (arith, c.loop-count-test.false, c.loop-count.auto.count-end, c.limit-count-end.ensures.is)) c.loop-count.invariant.are) c.feed-feed.ensures.sound

@@ -1,5 +1,5 @@
 use Rattle.std.proofs.Common.{arith}
-use Rattle.round_search.specs.Bounds.{IsLateIf}
+use Rattle.round_terms.specs.Costs.{IsLateIf}
 use Rattle.round_terms.specs.Labels.{facts_of}
 use Rattle.round_terms.specs.Tasks.{task_of}
 use Rattle.round_search.proofs.BoundLaws.{until_all, until_before, until_deadline, until_more}

@@ -1,4 +1,5 @@
-use Rattle.round_search.specs.Bounds.{IsLateIf, IsUntilFirst}
+use Rattle.round_terms.specs.Costs.{IsLateIf}
+use Rattle.round_search.specs.Bounds.{IsUntilFirst}
 use Rattle.round_terms.specs.Labels.{facts_of}
 use Rattle.round_terms.specs.Tasks.{task_of}
 use Rattle.round_search.proofs.search.Search.until.Given as goal

@@ -3,7 +3,7 @@ use Rattle.std.proofs.lemmas.Int.{ints}
 use Rattle.transit_base.specs.declared.moments.Moment.{Moment}
 use Rattle.plan_rides.specs.InTime.{deadline}
 use Rattle.search_laws.specs.Ways.{LeadsBy}
-use Rattle.round_search.specs.Bounds.{CostOn, IsLateIf}
+use Rattle.round_terms.specs.Costs.{CostOn, IsLateIf}
 use Rattle.round_terms.specs.Labels.{facts_of}
 use Rattle.round_terms.specs.Steps.{ways}
 use Rattle.round_terms.specs.Tasks.{Asked, task_of}

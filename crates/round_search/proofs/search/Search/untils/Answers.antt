@@ -1,6 +1,7 @@
 use Rattle.std.proofs.Common.{ap, subst, ℤ}
 use Rattle.plan_rides.specs.InTime.{deadline}
-use Rattle.round_search.specs.Bounds.{AreLate, DepartsAfter}
+use Rattle.round_terms.specs.Costs.{AreLate}
+use Rattle.round_search.specs.Bounds.{DepartsAfter}
 use Rattle.round_terms.specs.Labels.{facts_of}
 use Rattle.round_terms.specs.Tasks.{Asked, HasLaws, task_of}
 use Rattle.round_search.proofs.BoundLaws.{until_any, until_late, until_some}
@@ -9,7 +10,7 @@ use Rattle.round_search.proofs.search.Search.untils.Goals as goal
 pub returns-in-Some : goal.returns-in-Some
 returns-in-Some g c =
     let task = task_of g.T.Fare.LabelOrder.at_most g.T.Tariff.terms c.args.self.now in
-    let laws : HasLaws task = record { order = g.met.T.Fare.LabelOrder.laws; fares = g.met.T.Tariff.lawful c.args.self.now.tariff } in
+    let laws : HasLaws task = c.limit-limit.ensures.laws in
     let a = facts_of c.args.label.now in
     let sound = c.feed-feed.ensures.sound in
     let last = c.last_end-last.ensures in
@@ -22,7 +23,7 @@ returns-in-Some g c =
 pub returns-in-None : goal.returns-in-None
 returns-in-None g c =
     let task = task_of g.T.Fare.LabelOrder.at_most g.T.Tariff.terms c.args.self.now in
-    let laws : HasLaws task = record { order = g.met.T.Fare.LabelOrder.laws; fares = g.met.T.Tariff.lawful c.args.self.now.tariff } in
+    let laws : HasLaws task = c.limit-limit.ensures.laws in
     let a = facts_of c.args.label.now in
     let all = until_any task laws c.feed-feed.ensures.sound c.args.finals.now a c.until-all.result.0 c.until-all.ensures in
     record { all = all; late = until_some task c.args.finals.now a (DepartsAfter c.last_end-last.result.0) c.until-all.result.0 all }
