@@ -66,11 +66,12 @@ pred_suc (suc n) nz = omega arith
 -- what a tariff promises of prices holds of the search that it serves
 pub costs_of : {S F M : Type 0} (at_most : F → F → Bool) (terms : S → Terms F M) (Serves : Asked S → Type 0) (tariff : S) (me : Asked S)
     (a : Facts F) (late : Bool) (n : ℕ) (price : Option LeastPrice) → me.tariff ≡ tariff →
-    ((asked : Asked S) → asked.tariff ≡ tariff → Serves asked → IsWithinWindow asked.query a.arrival →
+    ((asked : Asked S) → asked.tariff ≡ tariff → Serves asked → IsWithinWindow asked.query a.arrival → a.rides + n < asked.query.rides →
     CostOn (task_of at_most terms asked) (IsLateIf (terms tariff) a late) n a price) →
-    Serves me → IsWithinWindow me.query a.arrival → CostOn (task_of at_most terms me) (IsLateIf (terms me.tariff) a late) n a price
-costs_of {S} at_most terms Serves tariff me a late n price own clause serves within =
-    subst (λ (s : S). CostOn (task_of at_most terms me) (IsLateIf (terms s) a late) n a price) (sym own) (clause me own serves within)
+    Serves me → IsWithinWindow me.query a.arrival → a.rides + n < me.query.rides →
+    CostOn (task_of at_most terms me) (IsLateIf (terms me.tariff) a late) n a price
+costs_of {S} at_most terms Serves tariff me a late n price own clause serves within few =
+    subst (λ (s : S). CostOn (task_of at_most terms me) (IsLateIf (terms s) a late) n a price) (sym own) (clause me own serves within few)
 
 -- no triple is dearer than no price
 pub none_dearer : (price : Option LeastPrice) (triple : Triple) → price ≡ None → IsDearer price triple → ⊥

@@ -239,3 +239,8 @@ module _ {F M : Type 0} (task : Task F M) (laws : HasLaws task) where
         (λ upper. let same : steps.0 ≡ k = omega (arith, below, upper) in
         inr (subst (λ (c : CaughtRide). StepsBy task (facts_of from) c.ride b)
         (same_Some _ _ (sym steps.3 ∙ ap (slice_get rides) same ∙ at)) steps.4)) (cases_lt steps.0 k)
+
+-- one of the first of so many rides is one of the first of more
+pub by_first : {F M : Type 0} (task : Task F M) (a : Facts F) (rides : List CaughtRide) (n k : ℕ) (b : Facts F) → n ≤ k →
+    StepsByFirst task a rides n b → StepsByFirst task a rides k b
+by_first task a rides n k b le steps = let below = steps.1 in (steps.0, omega (arith, below, le), steps.2, steps.3, steps.4)

@@ -45,7 +45,7 @@ returns-then-is_useless-clause-spreads g c =
     after_is task laws source c.requires.source caught c.requires.right taken c.after.result
     (c.after.ensures ∙ ap (λ (a : Asked _). (g.T.Tariff.terms a.tariff).after (facts_of source.label.now) caught.facts taken) c.self.view_is) in
     let lack = subst (λ (x : Label _ _). Lacks task finals (facts_of x)) next (c.is_useless.ensures c.if-is_useless.true) in
-    spreads_none (search_of task) (Lacks task finals) source.labels.now _ _ (in_bags c.args.bags.now)
+    spreads_none (search_of task) (Lacks task finals) source.labels.now _ _ (in_bags c.args.store.now.bags)
     (λ b same. subst (Lacks task finals) (sym same) lack)
 
 pub is_cut-requires-clause-fare : goal.is_cut-requires-clause-fare
@@ -81,7 +81,7 @@ returns-then-is_cut-clause-spreads g c =
     (c.after.ensures ∙ ap (λ (a : Asked _). (g.T.Tariff.terms a.tariff).after (facts_of source.label.now) caught.facts taken) c.self.view_is) in
     let cut = subst (λ (x : Label _ _). is_cut task finals (facts_of x) ≡ true) next (sym c.is_cut.ensures ∙ c.if-is_cut.true) in
     let lack = cut_lacks task laws c.feed-feed.ensures.sound finals (facts_of (went_on task laws source c.requires.source caught c.requires.right taken)) cut in
-    spreads_none (search_of task) (Lacks task finals) source.labels.now _ _ (in_bags c.args.bags.now)
+    spreads_none (search_of task) (Lacks task finals) source.labels.now _ _ (in_bags c.args.store.now.bags)
     (λ b same. subst (Lacks task finals) (sym same) lack)
 
 pub offer-requires : goal.offer-requires
@@ -103,6 +103,6 @@ returns-clause-spreads g c =
     let on = went_on task laws source c.requires.source caught c.requires.right taken in
     let uncut = subst (λ (x : Label _ _). is_cut task finals (facts_of x) ≡ false) next (sym c.is_cut.ensures ∙ c.if-is_cut.false) in
     spreads_taken (search_of task) (ways_lawful task laws) (cover_test task laws) (Lacks task finals) _ _ c.offer.result
-    (in_bags c.args.bags.now) (in_bags c.offer.new.self) _ on c.offer.ensures.takes next
+    (in_bags c.args.store.now.bags) (in_bags c.offer.new.store.bags) _ on c.offer.ensures.takes next
     (fresh_after task laws source c.requires.source caught c.requires.right taken c.feed-feed.ensures.sound c.requires.pays
     (uncut_of task finals source.labels.now on c.requires.ended uncut))

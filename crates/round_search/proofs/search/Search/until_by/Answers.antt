@@ -18,7 +18,7 @@ returns-in_default g c =
     let own = sym (ap (λ (s : Asked _). s.tariff) c.self.view_is) in
     let serves = subst g.T.Tariff.Serves c.self.view_is c.self.invariant.1 in
     let costs = costs_of g.T.Fare.LabelOrder.at_most g.T.Tariff.terms g.T.Tariff.Serves c.self.inside.tariff.now c.args.self.now a c.args.late
-    c.args.behind c.least_on.result own c.least_on.ensures serves c.requires.fit.within in
+    c.args.behind c.least_on.result own c.least_on.ensures serves c.requires.fit.within c.requires.few in
     by_none task c.args.finals.now a Part c.args.behind c.departure.result.0
     (subst (λ (m : Moment). m.0 ≤ℤ deadline task.query) (sym c.departure.ensures.is) (omega (arith, ints)))
     (λ triple leads. none_dearer c.least_on.result triple c.in_default.is (costs triple leads))
@@ -42,6 +42,6 @@ returns g c =
     let own = sym (ap (λ (s : Asked _). s.tariff) c.self.view_is) in
     let serves = subst g.T.Tariff.Serves c.self.view_is c.self.invariant.1 in
     let costs = costs_of g.T.Fare.LabelOrder.at_most g.T.Tariff.terms g.T.Tariff.Serves c.self.inside.tariff.now c.args.self.now a c.args.late
-    c.args.behind c.least_on.result own c.least_on.ensures serves c.requires.fit.within in
+    c.args.behind c.least_on.result own c.least_on.ensures serves c.requires.fit.within c.requires.few in
     by_found task c.args.finals.now a Part c.args.behind (a.rides + c.args.behind + 1) c.in-Some.price c.last_end.result c.found_by.result refl
     c.last_end.ensures (subst (CostOn task Part c.args.behind a) c.in-Some.is costs) c.found_by.ensures
