@@ -8,6 +8,7 @@ pub mod SourceLaws
 pub mod FinalLaws
 pub mod RoundLaws
 pub mod ScanLaws
+pub mod SettledLaws
 pub mod SpanLaws
 pub mod FoundLaws
 pub mod BoundLaws

@@ -63,6 +63,26 @@ position_at list now k n x same below many is =
     slice_get_read list.items (length list.items) k x refl (omega (arith, below, many, list.ok.0))
     (subst (λ (v : Vec Reached Global). x ≡ slice_index_or v.items k x) same is)
 
+-- ---- the steps by one position after another
+
+module _ {F M : Type 0} (task : Task F M) (round : Round F M) where
+  pub steps_more : (list : List Reached) (k : ℕ) (x : Reached) (b : Facts F) → slice_get list k ≡ Some x →
+      StepsAtFirst task round list (k + 1) b →
+      StepsAtFirst task round list k b ⊎ StepsFromPosition task round x b
+  steps_more list k x b at steps =
+      let below = steps.1 in
+      ⊎_elim (λ lower. inl (steps.0, lower, steps.2, steps.3, steps.4))
+      (λ upper. let same : steps.0 ≡ k = omega (arith, below, upper) in
+      inr (subst (λ (y : Reached). StepsFromPosition task round y b) (same_Some _ _ (sym steps.3 ∙ ap (slice_get list) same ∙ at)) steps.4))
+      (cases_lt steps.0 k)
+
+  pub steps_all : (list : List Reached) (n : ℕ) (b : Facts F) → length list ≤ n → StepsAmong task round list b →
+      StepsAtFirst task round list n b
+  steps_all list n b whole among =
+      let at = slice_get-Contains list among.0 among.1 in
+      let lt = slice_get_within list at.0 among.0 at.1 in
+      (at.0, omega (arith, lt, whole), among.0, at.1, among.2)
+
 module _ {F M : Type 0} (task : Task F M) (laws : HasLaws task) where
   -- a ride of a step is caught in time, also where the positions are of the same feed and query
   step_caught : (me : Positioned) (a b : Facts F) → me.feed ≡ task.feed → me.query ≡ task.query → (to : StepsTo task a b) →
@@ -267,25 +287,6 @@ module _ {F M : Type 0} (task : Task F M) (laws : HasLaws task) where
         let place = reached.number - round.begin in
         let has = slice_get-get_or marks.untils.items place no_until (omega (arith, lt, marks.untils.ok.0)) in
         (get_or marks.untils.items place no_until, has, until_at marks reached x _ are marked at has)
-
-    -- ---- the steps by one position after another
-
-    pub steps_more : (list : List Reached) (k : ℕ) (x : Reached) (b : Facts F) → slice_get list k ≡ Some x →
-        StepsAtFirst task round list (k + 1) b →
-        StepsAtFirst task round list k b ⊎ StepsFromPosition task round x b
-    steps_more list k x b at steps =
-        let below = steps.1 in
-        ⊎_elim (λ lower. inl (steps.0, lower, steps.2, steps.3, steps.4))
-        (λ upper. let same : steps.0 ≡ k = omega (arith, below, upper) in
-        inr (subst (λ (y : Reached). StepsFromPosition task round y b) (same_Some _ _ (sym steps.3 ∙ ap (slice_get list) same ∙ at)) steps.4))
-        (cases_lt steps.0 k)
-
-    pub steps_all : (list : List Reached) (n : ℕ) (b : Facts F) → length list ≤ n → StepsAmong task round list b →
-        StepsAtFirst task round list n b
-    steps_all list n b whole among =
-        let at = slice_get-Contains list among.0 among.1 in
-        let lt = slice_get_within list at.0 among.0 at.1 in
-        (at.0, omega (arith, lt, whole), among.0, at.1, among.2)
 
     -- ---- the rides from a position
 

@@ -87,6 +87,6 @@ pub record IsPlace {F M : Type 0} (task : Task F M) (scan : Scan F M) (reached :
 -- labels that are settled
 pub record IsKept {F M L : Type 0} (task : Task F M) (Is : ℕ → RideFacts → Type 0) (scan : Scan F M) (kept : Kept L)
     (bags : List (Label F M)) : Type 0 where
-  pub kept : AreKept scan.round.now.positions.now (cutoff_of scan.cutoffs.latest) kept.rides
+  pub are : AreKept scan.round.now.positions.now (cutoff_of scan.cutoffs.latest) kept.rides
   pub known : AreKnown Is kept.rides.rides
   pub tried : All (IsTried task scan.round.now.finals.now scan.round.now.count kept.rides.rides bags) kept.settled.labels.items

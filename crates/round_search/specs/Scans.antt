@@ -17,7 +17,6 @@ use Rattle.round_search.specs.Cuts.{Lacks}
 use Rattle.round_search.specs.Finals.{HasEnds}
 use Rattle.round_search.specs.declared.bounds.Until.{Until}
 use Rattle.round_terms.specs.declared.finals.Final.{Final}
-use Rattle.round_search.specs.declared.scan.Limits.{Limits}
 use Rattle.round_search.specs.declared.scan.Marks.{Marks}
 use Rattle.plan_rides.specs.Cutoffs.{CutoffOf, cutoff_of, is_early}
 use Rattle.plan_rides.specs.declared.caught.CaughtRide.{CaughtRide}

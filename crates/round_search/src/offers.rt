@@ -1,11 +1,11 @@
 //! How a round goes on from its labels: pattern by pattern, and position by position.
-ghost use Rattle.std.specs.Prelude.{◌≡◌, ◌+◌, ◌<ℤ◌, false, true, length, OnOk, slice_get, Some};
+ghost use Rattle.std.specs.Prelude.{◌≡◌, ◌+◌, ◌<ℤ◌, false, true, All, length, OnOk};
 ghost use Rattle.plan_rides.specs.Cutoffs.{cutoff_of, is_early};
 ghost use Rattle.search_laws.specs.Stores.{StepsFrom};
 ghost use Rattle.round_search.specs.Bags.{AreForStops, StayForStops, in_bags};
 ghost use Rattle.round_search.specs.Bounds.{AreUntils};
 ghost use Rattle.round_search.specs.Offers.{AreLimits, IsKept, IsLeftOut, IsPlace, IsServed};
-ghost use Rattle.round_search.specs.Scans.{IsRound, SpreadsIn, StepsAt, StepsFromPosition};
+ghost use Rattle.round_search.specs.Scans.{IsRound, SpreadsIn, StepsAmong, StepsAt, StepsFromPosition};
 ghost use Rattle.round_search.specs.Searches.{IsFit, IsSource, SpreadsFrom, StepsByFirst, search_of};
 ghost use Rattle.round_terms.specs.Labels.{facts_of};
 ghost use Rattle.round_terms.specs.Tasks.{task_of};
@@ -204,6 +204,29 @@ impl<'s, 'l, T: Tariff> Search<'s, 'l, T> {
         kept.settled.add(own)
     }
 
+    /// Offers what one more ride from these positions leads to from the labels that reach them, position by position.
+    fn offer_marked(
+        &self,
+        store: &mut Store<T::Fare, T::Move>,
+        tries: &mut Tries<T::Move, T::Room>,
+        scan: &Scan<'s, '_, T::Fare, T::Move>,
+        reached: &[Reached],
+        kept: &mut Kept<T::Legs>,
+    ) -> Result<(), AllocError>
+        requires places { All (IsPlace (task_of T.Fare.at_most T.terms self.now) scan.now) reached.now }
+        requires knows { T.Knows self.now.tariff kept.old.legs }
+        requires kept { IsKept (task_of T.Fare.at_most T.terms self.now) (T.IsKnown self.now.tariff kept.old.legs) scan.now kept.old (in_bags store.old.bags) }
+        requires stops { AreForStops self.now.feed store.old.bags }
+        ensures knows { OnOk result (T.Knows self.now.tariff kept.new.legs) }
+        ensures spreads { OnOk result (SpreadsIn (task_of T.Fare.at_most T.terms self.now) scan.now.round.now (StepsAmong (task_of T.Fare.at_most T.terms self.now) scan.now.round.now reached.now) (in_bags store.old.bags) (in_bags store.new.bags)) }
+        ensures stops { OnOk result (StayForStops store.old.bags store.new.bags) }
+    {
+        for k in 0..reached.len() {
+            self.offer_from(store, tries, scan, &reached[k], kept)?;
+        }
+        Ok(())
+    }
+
     /// Offers what one more ride leads to from the labels of the round, position by position. What the room holds is lost, but for what
     /// is known of rides.
     pub(crate) fn offer_round(
@@ -227,10 +250,12 @@ impl<'s, 'l, T: Tariff> Search<'s, 'l, T> {
             cutoffs: self.cutoffs_by(self.more_behind(round), room.marks.last),
         };
         room.kept.clear();
-        for k in 0..room.marks.reached.len() {
-            let reached = &room.marks.reached[k];
-            self.offer_from(store, &mut room.tries, &scan, reached, &mut room.kept)?;
-        }
-        Ok(())
+        self.offer_marked(
+            store,
+            &mut room.tries,
+            &scan,
+            &room.marks.reached,
+            &mut room.kept,
+        )
     }
 }

@@ -7,7 +7,7 @@ ghost use Rattle.search_laws.specs.Stores.{StepsFrom};
 ghost use Rattle.round_search.specs.Bags.{AreForStops, StayForStops, in_bags};
 ghost use Rattle.round_search.specs.Bounds.{AreUntils, DepartsAfter, IsAnyRide, IsFair, IsUntil};
 ghost use Rattle.round_terms.specs.Labels.{facts_of};
-ghost use Rattle.round_search.specs.Scans.{AddsLabel, AddsMarks, AreLimits, AreMarks, AreUntilsIn, IsBehind, IsMarked, IsRound, ServeFor, SpreadsIn, StepsAt, StepsFromPosition};
+ghost use Rattle.round_search.specs.Scans.{AddsLabel, AddsMarks, AreMarks, IsRound};
 ghost use Rattle.round_search.specs.Searches.{IsFit, IsSource, SpreadsFrom, search_of};
 ghost use Rattle.round_terms.specs.Steps.{stand_of_facts};
 ghost use Rattle.round_terms.specs.Tasks.{task_of};

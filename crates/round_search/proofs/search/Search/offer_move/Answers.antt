@@ -103,6 +103,6 @@ returns-clause-spreads g c =
     let on = went_on task laws source c.requires.source caught c.requires.right taken in
     let uncut = subst (λ (x : Label _ _). is_cut task finals (facts_of x) ≡ false) next (sym c.is_cut.ensures ∙ c.if-is_cut.false) in
     spreads_taken (search_of task) (ways_lawful task laws) (cover_test task laws) (Lacks task finals) _ _ c.offer.result
-    (in_bags c.args.store.now.bags) (in_bags c.offer.new.store.bags) _ on c.offer.ensures.takes next
+    (in_bags c.args.store.now.bags) (in_bags c.offer.new.self) _ on c.offer.ensures.takes next
     (fresh_after task laws source c.requires.source caught c.requires.right taken c.feed-feed.ensures.sound c.requires.pays
     (uncut_of task finals source.labels.now on c.requires.ended uncut))

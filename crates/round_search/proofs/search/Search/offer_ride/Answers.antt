@@ -27,7 +27,7 @@ loop-k-preserved g c =
     let task = task_of g.T.Fare.LabelOrder.at_most g.T.Tariff.terms c.args.self.now in
     let laws : HasLaws task = c.limit-limit.ensures.laws in
     let source = c.args.source.now in
-    let moves = c.moves_into.new.tries.moves in
+    let moves = c.moves_into.new.moves in
     let lt : c.loop-k.k < length moves.items = omega (arith, c.loop-k-test.true, c.len-k-end.ensures, moves.ok.0) in
     let at = slice_get_read moves.items (length moves.items) c.loop-k.k c.index.result.now refl lt c.index.ensures in
     record {
@@ -44,7 +44,7 @@ returns-clause-spreads g c =
     let laws : HasLaws task = c.limit-limit.ensures.laws in
     let source = c.args.source.now in
     let caught = c.args.leg.now.caught.now in
-    let moves = c.moves_into.new.tries.moves in
+    let moves = c.moves_into.new.moves in
     spreads_by task laws source c.requires.source caught c.requires.right c.feed-feed.ensures.sound c.args.finals.now moves.items c.loop-k.k _ _
     (subst (λ (a : Asked _). AreEnough task.at_most (g.T.Tariff.terms a.tariff) (facts_of source.label.now) caught.facts moves.items) c.self.view_is
     c.in_ok-moves_into.ensures)
