@@ -10,8 +10,8 @@ add_ends-requires-clause-before g c =
     let task = task_of g.T.Fare.LabelOrder.at_most g.T.Tariff.terms c.args.self.now in
     let labels = c.args.found.now.labels.items in
     let more = gathered c.args.rides (in_bags c.args.bags.now) in
-    let same : length labels ≡ c.len-begin.result = omega (arith, c.len-begin.ensures, c.args.found.now.labels.ok.0) in
-    subst (λ ls. AddsEnds task ls (EndsBelow task ls c.len-begin.result) [] c.args.found.now.front)
+    let same : length labels ≡ c.len-found.result = omega (arith, c.len-found.ensures, c.args.found.now.labels.ok.0) in
+    subst (λ ls. AddsEnds task ls (EndsBelow task ls c.len-found.result) [] c.args.found.now.front)
     (sym (c.deref.ensures.value ∙ c.in_ok-gather.ensures.value))
     (subst (λ n. AddsEnds task (labels ++ more) (EndsBelow task (labels ++ more) n) [] c.args.found.now.front) same
     (ends_longer task labels more c.args.found.now.front c.requires.ended))

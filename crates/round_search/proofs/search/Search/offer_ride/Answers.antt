@@ -35,7 +35,7 @@ loop-k-preserved g c =
           c.in_ok-offer_move.ensures.spreads
           (λ b. leads_more task laws source c.requires.source c.args.leg.now.caught.now c.requires.right moves.items c.loop-k.k
           c.index.result.now b at);
-      stops = c.offer_move.ensures.stops ∙ c.loop-k.invariant.stops;
+      stops = c.in_ok-offer_move.ensures.stops ∙ c.loop-k.invariant.stops;
     }
 
 pub returns-clause-spreads : goal.returns-clause-spreads
