@@ -1,7 +1,7 @@
 //! What a search by rounds keeps of the fares of a partial journey.
 ghost use Rattle.std.specs.Prelude.{◌≡◌, ◌+ℤ◌};
 ghost use Rattle.feed_rows.specs.Amounts.{is_no_dearer};
-ghost use Rattle.fare_tariff.specs.FareTerms.{at_most, same_state, spent_of};
+ghost use Rattle.fare_tariff.specs.FareTerms.{spent_of};
 
 use crate::fare_class::FareClass;
 use feed_rows::FareState;
@@ -35,7 +35,7 @@ impl LabelOrder for Fare {
 
     ghost at_most = { at_most };
 
-    #[tactic(auto, unfolding(crate::specs::FareTerms::at_most))]
+    #[tactic(auto, unfolding(crate::specs::FareTerms::at_most, feed_rows::specs::SameStates::same_parts))]
     fn leq(&self, other: &Self) -> bool {
         is_no_dearer(self, other) && self.state == other.state
     }
