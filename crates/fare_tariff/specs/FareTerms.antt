@@ -1,5 +1,5 @@
 -- What a search by rounds is told of fares.
-use Rattle.std.specs.Prelude.{◌≡◌, ℕ, ◌*◌, ◌^◌, ◌≤◌, ◌==◌, ◌&&◌, Bool, is_none, Option, Some, None, nat_abs, ℤ, pos, ◌+ℤ◌, ◌<ℤ◌, List, false, true}
+use Rattle.std.specs.Prelude.{◌≡◌, ℕ, ◌*◌, ◌^◌, ◌≤◌, ◌==◌, ◌&&◌, Bool, is_none, slice_get, Option, Some, None, nat_abs, ℤ, pos, ◌+ℤ◌, ◌<ℤ◌, List, false, true}
 use Rattle.std.specs.Option.{option_eq}
 use Rattle.feed_rows.specs.declared.journeys.Query.{Query}
 use Rattle.feed_rows.specs.declared.journeys.RideFacts.{RideFacts}
@@ -8,22 +8,29 @@ use Rattle.feed_rows.specs.declared.states.Move.{Move}
 use Rattle.feed_rows.specs.declared.fares.Triple.{Triple}
 use Rattle.feed_rows.specs.declared.journeys.Buyer.{Buyer}
 use Rattle.feed_rows.specs.Amounts.{Spent, is_no_dearer}
+use Rattle.fare_automaton.specs.Terms.{terms}
 use Rattle.fare_bounds.specs.FareBounds.{AreFareBounds, BoundLists, late_after}
+use Rattle.fare_bounds.specs.LastChanges.{AreLastChanges}
 use Rattle.fare_tariff.specs.Lasts.{AreLastMoves}
 use Rattle.feed_rows.specs.FareChoices.{chosen_leg, is_leg_choice}
 use Rattle.feed_rows.specs.FareSteps.{asked_after, is_arranged_after, leg_taken, move_after}
 use Rattle.feed_rows.specs.TransferRules.{FareLeg}
 use Rattle.plain_laws.specs.Plain.{filled_and}
 use Rattle.feed_rows.specs.FeedRows.{FeedRows}
+use Rattle.feed_rows.specs.Journeys.{Asked as OverFeed}
 use Rattle.feed_rows.specs.Legs.{leg_facts}
 use Rattle.feed_rows.specs.PartialJourneys.{LabelFacts}
 use Rattle.feed_rows.specs.SameStates.{same_parts}
 use Rattle.feed_rows.specs.SoundFeed.{IsSoundFeed}
+use Rattle.leg_kinds.specs.Kinds.{IsOfKind}
 use Rattle.plan_rides.specs.InTime.{IsUsualQuery}
 use Rattle.round_laws.specs.Futility.{least_end}
 use Rattle.round_terms.specs.Tasks.{Asked, Task}
 use Rattle.round_terms.specs.Terms.{Facts, Terms}
 use Rattle.fare_tariff.specs.declared.fare.Fare.{Fare}
+use Rattle.fare_tariff.specs.declared.legs.FareLegs.{FareLegs}
+use Rattle.fare_tariff.specs.declared.prices.LeastPrices.{LeastPrices}
+use Rattle.fare_tariff.specs.Groups.{IsGrouped}
 
 -- ---- fares
 
@@ -92,6 +99,10 @@ pub record TariffOf : Type 0 where
   pub query : Query
   pub whole : Bool
   pub bounds : BoundLists
+
+-- by the query over the feed, and by what is told of the least prices
+abbrev pub tariff_of : OverFeed → LeastPrices → Bool → TariffOf
+tariff_of over prices whole = record { feed = over.feed; query = over.query; whole = whole; bounds = prices.bounds }
 
 abbrev pub fare_terms : TariffOf → Terms Fare Move
 fare_terms of = record {
