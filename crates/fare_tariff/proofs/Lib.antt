@@ -1,3 +1,6 @@
+pub mod StepLaws
 pub mod LastLaws
-pub mod PriceLaws
 pub mod MoveLaws
+pub mod KindLaws
+pub mod SettledLaws
+pub mod Needed

@@ -34,7 +34,7 @@ impl<'s, 'l> Drop for FareLegs<'s, 'l> {
 impl<'s, 'l> FareLegs<'s, 'l> {
     /// Of no rides, by what is known of legs.
     pub fn of(alloc: Global, known: LegKinds<'l, 's>) -> FareLegs<'s, 'l>
-        ensures { result.known ≡ known }
+        ensures { result.known ≡ known.entry }
     {
         FareLegs {
             known,
