@@ -1,10 +1,10 @@
 -- The kinds of the legs that rides are, and their leg groups.
-use Rattle.std.proofs.Common.{◌≡◌, sym, ◌∙◌, ap, subst, ⊎_elim, ℕ, ◌<◌, ◌≤◌, true, List, [], ◌∷◌, ◌++◌, length, arith}
+use Rattle.std.proofs.Common.{◌≡◌, sym, ◌∙◌, ap, subst, ⊎_elim, ℕ, ◌<◌, ◌≤◌, true, List, [], ◌∷◌, ◌++◌, length, get_or, arith}
 use Rattle.std.specs.Prelude.{All, Contains, Option, Some, slice_get}
 use Rattle.std.proofs.lemmas.Bool.{cases_lt}
 use Rattle.std.proofs.lemmas.List.{length_push}
 use Rattle.std.proofs.lemmas.List.Elements.{All-contains}
-use Rattle.std.proofs.lemmas.Option.{get_or_from_slice_get, same_Some, slice_get_within}
+use Rattle.std.proofs.lemmas.Option.{get_or_from_slice_get, same_Some, slice_get-get_or, slice_get_within}
 use Rattle.transit_base.specs.declared.numbers.LegGroupId.{LegGroupId}
 use Rattle.plain_laws.proofs.Laws.{slice_get-push_before, slice_get-push_last}
 use Rattle.feed_rows.specs.declared.journeys.Buyer.{Buyer}
@@ -65,10 +65,6 @@ grouped_by feed buyer groups leg picks enough all pick is group of_group =
 
 -- ---- what is known of rides
 
--- a list has an item at each place before its end
-item_at : {X : Type 0} (xs : List X) (k : ℕ) → k < length xs → (x : X) × (slice_get xs k ≡ Some x)
-item_at xs k lt = ?
-
 -- it is so of each of the rides
 pub all_known : (feed : FeedRows) (buyer : Buyer) (legs : FareLegs) (rides : List CaughtRide) → AreKinds feed legs.known rides legs.kinds.items →
     AreGroupsOf feed buyer rides legs.groups.items → AreLastChanges feed legs.groups.items legs.changes →
@@ -76,11 +72,11 @@ pub all_known : (feed : FeedRows) (buyer : Buyer) (legs : FareLegs) (rides : Lis
 all_known feed buyer legs rides kinds groups changes place caught is =
     let within = slice_get_within rides place caught is in
     let many = kinds.many in
-    let kind = item_at legs.kinds.items place (omega (arith, within, many)) in
+    let at = slice_get-get_or legs.kinds.items place 0 (omega (arith, within, many)) in
     record {
-      kind = kind.0;
-      at = kind.1;
-      of = kinds.fit place caught kind.0 is kind.1;
+      kind = get_or legs.kinds.items place 0;
+      at = at;
+      of = kinds.fit place caught (get_or legs.kinds.items place 0) is at;
       grouped = groups caught (place, within, get_or_from_slice_get rides place caught caught is);
       changes = changes;
     }
