@@ -4,3 +4,4 @@ pub mod MoveLaws
 pub mod KindLaws
 pub mod SettledLaws
 pub mod Needed
+pub mod TariffLaws
