@@ -14,6 +14,7 @@ use Rattle.feed_rows.specs.FeedRows.{FeedRows}
 use Rattle.feed_rows.specs.Legs.{leg_facts}
 use Rattle.fare_automaton.specs.Fewest.{AreEnough}
 use Rattle.fare_automaton.specs.Known.{KnownPicks}
+use Rattle.fare_bounds.proofs.FirstLaws.{AreFirst}
 use Rattle.fare_bounds.specs.LastChanges.{AreLastChanges}
 use Rattle.leg_kinds.specs.Kinds.{IsOfKind}
 use Rattle.plan_rides.specs.declared.caught.CaughtRide.{CaughtRide}
@@ -62,6 +63,10 @@ pub grouped_by : (feed : FeedRows) (buyer : Buyer) (groups : List (Option LegGro
 grouped_by feed buyer groups leg picks enough all pick is group of_group =
     let lesser = enough.enough pick is in
     All-contains (HasGroup feed groups) picks lesser.0 all lesser.1 group (lesser.2.group ∙ of_group)
+
+-- what holds of so many first items as there are holds of all
+pub all_first : {X : Type 0} (P : X → Type 0) (xs : List X) (n : ℕ) → length xs ≤ n → AreFirst P xs n → All P xs
+all_first P xs n le first k d lt = first k (get_or xs k d) (omega (arith, lt, le)) (slice_get-get_or xs k d lt)
 
 -- ---- what is known of rides
 

@@ -1,9 +1,9 @@
 -- The moves that an automaton finds, and which of them are enough.
-use Rattle.std.proofs.Common.{◌≡◌, refl, ◌∙◌, ℕ, ◌+◌, ◌<◌, ◌++◌, ◌∷◌, [], sym, subst, ap, ⊎_elim, arith, false, List, get_or, pos, ℤ}
+use Rattle.std.proofs.Common.{◌≡◌, refl, ◌∙◌, ℕ, ◌+◌, ◌<◌, ◌++◌, ◌∷◌, [], sym, subst, ap, ⊎_elim, arith, false, true, List, length, get_or, pos, ℤ}
 use Rattle.std.specs.Prelude.{All, Contains, slice_get, Option, Some, None, Result, Ok, Err, OnOk}
 use Rattle.std.proofs.lemmas.Bool.{and_parts, cases_lt}
-use Rattle.std.proofs.lemmas.List.Elements.{All-contains}
-use Rattle.std.proofs.lemmas.Option.{same_Some}
+use Rattle.std.proofs.lemmas.List.Elements.{All-contains, All-push, Contains-append_left, Contains-get_or, Contains-push}
+use Rattle.std.proofs.lemmas.Option.{get_or_from_slice_get, same_Some}
 use Rattle.feed_rows.specs.declared.journeys.Buyer.{Buyer}
 use Rattle.feed_rows.specs.declared.journeys.LegFacts.{LegFacts}
 use Rattle.feed_rows.specs.declared.journeys.RideFacts.{RideFacts}
@@ -92,6 +92,33 @@ lesser_before all moves number d first has at =
       below.1,
       lesser_trans below.0 has.better d below.2 (subst (IsLesserMove has.better) same (betters-tells has.better has.other has.betters)),
     )
+
+-- some moves of the first so many of all, beside each of which one of them stands
+pub record AreBest (all moves : List Move) (number : ℕ) : Type 0 where
+  pub from : All (Contains all) moves
+  pub each : AreFirst (HasLesserMove moves) all number
+
+-- one more
+pub best_more : (all moves new : List Move) (number : ℕ) (d : Move) → number < length all → new ≡ moves ++ get_or all number d ∷ [] →
+    AreBest all moves number → AreBest all new (number + 1)
+best_more all moves new number d lt is are =
+    let own = get_or all number d in
+    subst (λ ms. AreBest all ms (number + 1)) (sym is)
+    (record {
+      from = All-push (Contains all) moves own are.from (Contains-get_or all number d lt);
+      each = first_more (HasLesserMove moves) (HasLesserMove (moves ++ own ∷ [])) all number d are.each
+          (λ move has. (has.0, Contains-append_left moves (own ∷ []) has.0 has.1, has.2))
+          (own, Contains-push moves own, lesser_itself own);
+    })
+
+-- or none, where a move before the next is as good
+pub best_past : (all moves : List Move) (number : ℕ) → HasBetter all number → AreBest all moves number → AreBest all moves (number + 1)
+best_past all moves number has are = record {
+  from = are.from;
+  each = first_more (HasLesserMove moves) (HasLesserMove moves) all number has.other are.each (λ move own. own)
+      (subst (HasLesserMove moves) (sym (get_or_from_slice_get all number has.other has.other has.at))
+      (lesser_before all moves number has.other are.each has has.at));
+}
 
 -- such moves are enough where all are
 pub fewer_enough : (feed : FeedRows) (buyer : Buyer) (state : Option FareState) (held : ℤ) (leg : LegFacts) (all moves : List Move) →

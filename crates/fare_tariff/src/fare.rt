@@ -1,5 +1,5 @@
 //! What a search by rounds keeps of the fares of a partial journey.
-ghost use Rattle.std.specs.Prelude.{◌≡◌, ◌+ℤ◌};
+ghost use Rattle.std.specs.Prelude.{◌≡◌, ◌+ℤ◌, ◌^◌, ◌≤◌, nat_abs};
 ghost use Rattle.feed_rows.specs.Amounts.{is_no_dearer};
 ghost use Rattle.fare_tariff.specs.FareTerms.{spent_of};
 
@@ -23,7 +23,8 @@ pub struct Fare {
 impl Fare {
     /// The price so far, with what is held.
     pub fn price(&self) -> i128
-        ensures { result ≡ self.now.paid.0 +ℤ self.now.held.0 }
+        ensures value { result ≡ self.now.paid.0 +ℤ self.now.held.0 }
+        ensures low { nat_abs result ≤ 2 ^ 64 }
     {
         i128::from(self.paid.0) + i128::from(self.held.0)
     }
