@@ -1,10 +1,12 @@
 //! What a search by rounds keeps of the fares of a partial journey.
-ghost use Rattle.std.specs.Prelude.{◌≡◌, ◌+ℤ◌, ◌^◌, ◌≤◌, nat_abs};
+ghost use Rattle.std.specs.Prelude.{◌≡◌, ◌+ℤ◌, ◌<◌, ◌^◌, ◌≤◌, nat_abs};
 ghost use Rattle.feed_rows.specs.Amounts.{is_no_dearer};
-ghost use Rattle.fare_tariff.specs.FareTerms.{spent_of};
+ghost use Rattle.feed_rows.specs.Limits.{most_rides};
+ghost use Rattle.fare_laws.specs.SmallMoves.{IsSmall};
+ghost use Rattle.fare_tariff.specs.FareTerms.{IsFare, fare_after, spent_of};
 
 use crate::fare_class::FareClass;
-use feed_rows::FareState;
+use feed_rows::{FareState, Move};
 use label_order::LabelOrder;
 use round_terms::Classed;
 use transit_base::Money;
@@ -27,6 +29,20 @@ impl Fare {
         ensures low { nat_abs result ≤ 2 ^ 64 }
     {
         i128::from(self.paid.0) + i128::from(self.held.0)
+    }
+
+    /// What is kept after so many rides and one more, which the move pays.
+    pub(crate) fn after(&self, rides: u8, taken: &Move) -> Fare
+        requires few { rides < most_rides }
+        requires fare { IsFare rides self.now }
+        requires small { IsSmall taken.now }
+        ensures { result ≡ fare_after self.now taken.now }
+    {
+        Fare {
+            paid: Money(self.paid.0 + taken.paid.0),
+            held: taken.held,
+            state: Some(taken.state),
+        }
     }
 }
 

@@ -259,11 +259,7 @@ impl<'s, 'l> Tariff for FareTariff<'s, 'l> {
 
     fn after(&self, label: &Label<Fare, Move>, _ride: &CaughtRide, taken: &Move) -> Fare {
         let _feed = self.feed();
-        Fare {
-            paid: Money(label.fare.paid.0 + taken.paid.0),
-            held: taken.held,
-            state: Some(taken.state),
-        }
+        label.fare.after(label.rides, taken)
     }
 
     fn price(&self, label: &Label<Fare, Move>) -> Money {
