@@ -11,8 +11,9 @@ use Rattle.fare_tariff.proofs.tariff.FareTariffTariff.least_on.Goals as goal
 pub returns-then-is_far : goal.returns-then-is_far
 returns-then-is_far c asked same serves within few =
     let a = facts_of c.args.label.now in
-    told_never asked c.args.self.now same serves c.args.late c.args.behind a c.requires.fare within few c.least_on-price.result
-    (c.least_on-price.ensures ∙ ap (λ (of : TariffOf). least_on of.bounds c.args.late c.args.behind (label_facts a)) c.self.view_is)
+    told_never asked c.args.self.now same serves c.args.late c.args.behind a c.requires.fare within few _
+    (to_z-of_z w128 c.least_on-price.result (record { sfits = c.least_on-price.type_inv })
+    ∙ c.least_on-price.ensures ∙ ap (λ (of : TariffOf). least_on of.bounds c.args.late c.args.behind (label_facts a)) c.self.view_is)
     (c.is_far.ensures c.if-is_far.true)
 
 pub returns : goal.returns
