@@ -104,7 +104,7 @@ fn find_groups(
     Ok(())
 }
 
-impl<'s, 'l> FareLegs<'s, 'l> {
+impl<'l> FareLegs<'l> {
     /// Replaces what is known by what is known of these rides, but which of them are repeated.
     ///
     /// # Errors

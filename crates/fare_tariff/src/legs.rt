@@ -10,8 +10,8 @@ use transit_base::LegGroupId;
 
 /// The kinds of legs, and of the rides from a position in their order the numbers of their legs' kinds; for a quick search those that are
 /// like one before; of which leg groups they can be, and until when changes to these are arranged.
-pub struct FareLegs<'s, 'l> {
-    pub(crate) known: LegKinds<'l, 's>,
+pub struct FareLegs<'l> {
+    pub(crate) known: LegKinds<'l, 'l>,
     pub(crate) kinds: Vec<usize>,
     pub(crate) repeats: Repeats,
     pub(crate) groups: Vec<Option<LegGroupId>>,
@@ -19,7 +19,7 @@ pub struct FareLegs<'s, 'l> {
 }
 
 // Written out, so that what holds one needn't look into it to let go of it.
-impl<'s, 'l> Drop for FareLegs<'s, 'l> {
+impl<'l> Drop for FareLegs<'l> {
     fn drop(self) {
         let FareLegs {
             known: _,
@@ -31,9 +31,9 @@ impl<'s, 'l> Drop for FareLegs<'s, 'l> {
     }
 }
 
-impl<'s, 'l> FareLegs<'s, 'l> {
+impl<'l> FareLegs<'l> {
     /// Of no rides, by what is known of legs.
-    pub fn of(alloc: Global, known: LegKinds<'l, 's>) -> FareLegs<'s, 'l>
+    pub fn of(alloc: Global, known: LegKinds<'l, 'l>) -> FareLegs<'l>
         ensures { result.known ≡ known.entry }
     {
         FareLegs {

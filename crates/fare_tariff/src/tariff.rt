@@ -25,10 +25,10 @@ use transit_base::{Moment, Money};
 /// What a query's rides cost by the fare rules of a feed. Contracts see the feed, the query, whether the search is to be whole, and
 /// what further rides cost at least.
 #[derive(Drop)]
-pub struct FareTariff<'s, 'l> {
-    rides: &'l Rides<'s>,
+pub struct FareTariff<'l> {
+    rides: &'l Rides<'l>,
     /// The fares for the query's buyer.
-    automaton: &'l Automaton<'s>,
+    automaton: &'l Automaton<'l>,
     /// How little further rides can cost.
     prices: &'l LeastPrices,
     whole: bool,
@@ -38,7 +38,7 @@ pub struct FareTariff<'s, 'l> {
     takes_back: bool,
 }
 
-impl<'s, 'l> Model for FareTariff<'s, 'l> {
+impl<'l> Model for FareTariff<'l> {
     ghost use Rattle.std.specs.Prelude.{◌≡◌};
     ghost use Rattle.fare_automaton.specs.Terms.{terms};
     ghost use Rattle.fare_tariff.specs.FareTerms.{TariffOf, tariff_of};
@@ -94,16 +94,16 @@ fn since_at(past: Option<i128>, first: Moment, last: Moment) -> Option<Moment>
     }
 }
 
-impl<'s, 'l> FareTariff<'s, 'l> {
+impl<'l> FareTariff<'l> {
     /// By the rides of a query, the fares for its buyer, and what further rides cost at least; for a search that is to be whole, or for
     /// a quick one, which may pass over rides.
     pub fn of(
-        rides: &'l Rides<'s>,
-        automaton: &'l Automaton<'s>,
+        rides: &'l Rides<'l>,
+        automaton: &'l Automaton<'l>,
         prices: &'l LeastPrices,
         whole: bool,
         quick: bool,
-    ) -> FareTariff<'s, 'l>
+    ) -> FareTariff<'l>
         requires { automaton.now ≡ terms rides.now.feed rides.now.query.buyer }
         ensures { result ≡ tariff_of rides.now prices.now whole }
     {
@@ -118,7 +118,7 @@ impl<'s, 'l> FareTariff<'s, 'l> {
     }
 
     /// The feed.
-    fn feed(&self) -> &'s Feed
+    fn feed(&self) -> &'l Feed
         ensures value { result.now ≡ self.now.feed }
         ensures sound { IsSoundFeed self.now.feed }
     {
@@ -199,7 +199,7 @@ impl<'s, 'l> FareTariff<'s, 'l> {
     }
 }
 
-impl<'s, 'l> Tariff for FareTariff<'s, 'l> {
+impl<'l> Tariff for FareTariff<'l> {
     ghost use Rattle.fare_tariff.specs.FareLaws.{fare_lawful};
     ghost use Rattle.fare_tariff.specs.FareTerms.{IsKnown, Knows, Serves, fare_terms};
 
@@ -207,7 +207,7 @@ impl<'s, 'l> Tariff for FareTariff<'s, 'l> {
 
     type Move = Move;
 
-    type Legs = FareLegs<'s, 'l>;
+    type Legs = FareLegs<'l>;
 
     type Room = FareRoom;
 
@@ -231,7 +231,7 @@ impl<'s, 'l> Tariff for FareTariff<'s, 'l> {
         &self,
         alloc: Global,
         rides: &[CaughtRide],
-        legs: &mut FareLegs<'s, 'l>,
+        legs: &mut FareLegs<'l>,
     ) -> Result<(), AllocError> {
         legs.find(alloc, self.feed(), rides)?;
         if self.quick {
@@ -240,14 +240,14 @@ impl<'s, 'l> Tariff for FareTariff<'s, 'l> {
         Ok(())
     }
 
-    fn is_repeated(&self, leg: &Leg<'_, FareLegs<'s, 'l>>, since: Moment) -> bool {
+    fn is_repeated(&self, leg: &Leg<'_, FareLegs<'l>>, since: Moment) -> bool {
         self.quick && leg.legs.repeats.has(leg.place, since)
     }
 
     fn moves_into(
         &self,
         label: &Label<Fare, Move>,
-        leg: &Leg<'_, FareLegs<'s, 'l>>,
+        leg: &Leg<'_, FareLegs<'l>>,
         room: &mut FareRoom,
         moves: &mut Vec<Move>,
     ) -> Result<(), AllocError> {
@@ -290,7 +290,7 @@ impl<'s, 'l> Tariff for FareTariff<'s, 'l> {
     fn settled_since(
         &self,
         label: &Label<Fare, Move>,
-        legs: &FareLegs<'s, 'l>,
+        legs: &FareLegs<'l>,
         first: Moment,
         last: Moment,
     ) -> Option<Moment> {
