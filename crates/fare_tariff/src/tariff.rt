@@ -15,7 +15,7 @@ use crate::legs::{FareLegs, FareRoom};
 use crate::moves::best_into;
 use crate::prices::{LeastPrices, is_far};
 use fare_automaton::{Automaton, LegTimes};
-use feed_rows::{CHANGE_ALONE, Feed, LegChoice, Move, RideFacts};
+use feed_rows::{CHANGE_ALONE, Feed, LegChoice, Move, Query, RideFacts};
 use plan_rides::{CaughtRide, Rides};
 use round_terms::{Label, LeastPrice, Leg, Tariff};
 use std::alloc::{AllocError, Global};
@@ -26,7 +26,7 @@ use transit_base::{Moment, Money};
 /// what further rides cost at least.
 #[derive(Drop)]
 pub struct FareTariff<'l> {
-    rides: &'l Rides<'l>,
+    query: &'l Query,
     /// The fares for the query's buyer.
     automaton: &'l Automaton<'l>,
     /// How little further rides can cost.
@@ -40,15 +40,16 @@ pub struct FareTariff<'l> {
 
 impl<'l> Model for FareTariff<'l> {
     ghost use Rattle.std.specs.Prelude.{◌≡◌};
-    ghost use Rattle.fare_automaton.specs.Terms.{terms};
+    ghost use Rattle.feed_rows.specs.Journeys.{asked};
+    ghost use Rattle.plan_rides.specs.InTime.{IsUsualQuery};
     ghost use Rattle.fare_tariff.specs.FareTerms.{TariffOf, tariff_of};
     ghost use Rattle.round_laws.specs.Futility.{some_takes_back};
 
     ghost Value = { TariffOf };
 
-    ghost view = { λ s. tariff_of s.rides.now s.prices.now s.whole };
+    ghost view = { λ s. tariff_of (asked s.automaton.now.feed s.query.now) s.prices.now s.whole };
 
-    ghost invariant = { λ s. (s.automaton.now ≡ terms s.rides.now.feed s.rides.now.query.buyer) × (s.takes_back ≡ some_takes_back s.rides.now.feed) };
+    ghost invariant = { λ s. (s.automaton.now.buyer ≡ s.query.now.buyer) × (s.takes_back ≡ some_takes_back s.automaton.now.feed) × IsUsualQuery s.query.now };
 }
 
 /// Whether some change takes back what a leg before it cost.
@@ -95,10 +96,10 @@ fn since_at(past: Option<i128>, first: Moment, last: Moment) -> Option<Moment>
 }
 
 impl<'l> FareTariff<'l> {
-    /// By the rides of a query, the fares for its buyer, and what further rides cost at least; for a search that is to be whole, or for
+    /// Of the query of these rides, by the fares for its buyer, and what further rides cost at least; for a search that is to be whole, or for
     /// a quick one, which may pass over rides.
     pub fn of(
-        rides: &'l Rides<'l>,
+        rides: &Rides<'l>,
         automaton: &'l Automaton<'l>,
         prices: &'l LeastPrices,
         whole: bool,
@@ -108,7 +109,7 @@ impl<'l> FareTariff<'l> {
         ensures { result ≡ tariff_of rides.now prices.now whole }
     {
         FareTariff {
-            rides,
+            query: rides.query(),
             automaton,
             prices,
             whole,
@@ -130,7 +131,7 @@ impl<'l> FareTariff<'l> {
         ensures is { result ≡ self.now.query.rides }
         ensures usual { IsUsualQuery self.now.query }
     {
-        self.rides.query().rides
+        self.query.rides
     }
 
     /// How little a leg with the change to it can cost.
