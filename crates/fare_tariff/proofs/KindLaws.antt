@@ -1,6 +1,6 @@
 -- The kinds of the legs that rides are, and their leg groups.
-use Rattle.std.proofs.Common.{◌≡◌, sym, ◌∙◌, ap, subst, ⊎_elim, ℕ, ◌<◌, ◌≤◌, true, List, [], ◌∷◌, ◌++◌, length, get_or, arith}
-use Rattle.std.specs.Prelude.{All, Contains, Option, Some, slice_get}
+use Rattle.std.proofs.Common.{◌≡◌, sym, ◌∙◌, ap, subst, ⊎_elim, ℕ, ◌<◌, ◌≤◌, true, List, [], ◌∷◌, ◌++◌, length, get_or, pos, arith}
+use Rattle.std.specs.Prelude.{All, Contains, Option, Some, None, slice_get}
 use Rattle.std.proofs.lemmas.Bool.{cases_lt}
 use Rattle.std.proofs.lemmas.List.{length_push}
 use Rattle.std.proofs.lemmas.List.Elements.{All-contains}
@@ -23,6 +23,20 @@ use Rattle.round_terms.specs.Legs.{AreKnown}
 use Rattle.fare_tariff.specs.declared.legs.FareLegs.{FareLegs}
 use Rattle.fare_tariff.specs.FareTerms.{IsKnown}
 use Rattle.fare_tariff.specs.Groups.{AreGroupsOf, AreKinds, FitKinds, HasGroup, IsGrouped, StayGroups}
+
+-- a ride to read past the end of a list
+abbrev pub no_ride : CaughtRide
+no_ride =
+    record {
+      ride = record { trip = record { 0 = 0 }; day = record { 0 = pos 0 }; shift = pos 0; from = 0; to = 0 };
+      facts = record {
+        from = record { 0 = 0 };
+        to = record { 0 = 0 };
+        network = None;
+        departure = record { 0 = pos 0 };
+        arrival = record { 0 = pos 0 };
+      };
+    }
 
 module _ (feed : FeedRows) (rides : List CaughtRide) where
   -- no number fits
@@ -71,8 +85,8 @@ all_first P xs n le first k d lt = first k (get_or xs k d) (omega (arith, lt, le
 -- ---- what is known of rides
 
 -- it is so of each of the rides
-pub all_known : (feed : FeedRows) (buyer : Buyer) (legs : FareLegs) (rides : List CaughtRide) → AreKinds feed legs.known rides legs.kinds.items →
-    AreGroupsOf feed buyer rides legs.groups.items → AreLastChanges feed legs.groups.items legs.changes →
+pub all_known : (feed : FeedRows) (buyer : Buyer) (legs : FareLegs) (rides : List CaughtRide) →
+    AreKinds feed legs.known rides legs.kinds.items → AreGroupsOf feed buyer rides legs.groups.items → AreLastChanges feed legs.groups.items legs.changes →
     AreKnown (IsKnown feed buyer legs) rides
 all_known feed buyer legs rides kinds groups changes place caught is =
     let within = slice_get_within rides place caught is in

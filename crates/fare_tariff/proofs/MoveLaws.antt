@@ -27,7 +27,8 @@ use Rattle.fare_tariff.specs.FareTerms.{TariffOf, at_most, fare_terms}
 use Rattle.fare_tariff.specs.Moves.{HasBetter, betters}
 
 -- a ride's moments are those of the leg that it is
-pub ride_times : (feed : FeedRows) (ride : RideFacts) → times_of (leg_facts feed ride) ≡ record { departure = ride.departure; arrival = ride.arrival }
+pub ride_times : (feed : FeedRows) (ride : RideFacts) →
+    times_of (leg_facts feed ride) ≡ record { departure = ride.departure; arrival = ride.arrival }
 unfolding leg_facts
 ride_times feed ride = refl
 
@@ -44,8 +45,9 @@ moves_of_starts (Ok u) own feed buyer state held leg moves same none are =
 
 -- those of a leg after a state
 pub moves_of_steps : {E : Type 0} (result : Result (Unit {0}) E) (own : FareTerms) (feed : FeedRows) (buyer : Buyer)
-    (state : Option FareState) (before : FareState) (held : ℤ) (leg : LegFacts) (moves : List Move) → own ≡ terms feed buyer → state ≡ Some before →
-    OnOk result (AreEnoughMoves own.feed own.buyer (Some before) held leg moves) → OnOk result (AreEnoughMoves feed buyer state held leg moves)
+    (state : Option FareState) (before : FareState) (held : ℤ) (leg : LegFacts) (moves : List Move) → own ≡ terms feed buyer →
+    state ≡ Some before → OnOk result (AreEnoughMoves own.feed own.buyer (Some before) held leg moves) →
+    OnOk result (AreEnoughMoves feed buyer state held leg moves)
 moves_of_steps (Err e) own feed buyer state before held leg moves same some are = are
 moves_of_steps (Ok u) own feed buyer state before held leg moves same some are =
     subst (λ s. AreEnoughMoves feed buyer s held leg moves) (sym some)

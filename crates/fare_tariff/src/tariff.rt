@@ -96,8 +96,8 @@ fn since_at(past: Option<i128>, first: Moment, last: Moment) -> Option<Moment>
 }
 
 impl<'l> FareTariff<'l> {
-    /// Of the query of these rides, by the fares for its buyer, and what further rides cost at least; for a search that is to be whole, or for
-    /// a quick one, which may pass over rides.
+    /// Of the query of these rides, by the fares for its buyer, and what further rides cost at least; for a search that is to be
+    /// whole, or for a quick one, which may pass over rides.
     pub fn of(
         rides: &Rides<'l>,
         automaton: &'l Automaton<'l>,
@@ -279,12 +279,7 @@ impl<'l> Tariff for FareTariff<'l> {
         Some(LeastPrice(price))
     }
 
-    fn late_since(
-        &self,
-        label: &Label<Fare, Move>,
-        first: Moment,
-        last: Moment,
-    ) -> Option<Moment> {
+    fn late_since(&self, label: &Label<Fare, Move>, first: Moment, last: Moment) -> Option<Moment> {
         self.prices.late_since(&label.fare, first, last)
     }
 

@@ -1,21 +1,12 @@
-use Rattle.std.proofs.Common.{◌∙◌, refl, ap, subst, sym, List, ℕ, length, pos, slice_index_or, arith}
-use Rattle.std.specs.Prelude.{None}
+use Rattle.std.proofs.Common.{◌∙◌, refl, ap, subst, sym, List, ℕ, length, slice_index_or, arith}
 use Rattle.std.proofs.lemmas.List.{length_push}
 use Rattle.std.proofs.lemmas.Option.{slice_get-get_or}
-use Rattle.plan_rides.specs.declared.caught.CaughtRide.{CaughtRide}
 use Rattle.feed_rows.specs.Legs.{leg_facts}
 use Rattle.fare_automaton.specs.Terms.{FareTerms}
 use Rattle.leg_kinds.specs.Kinds.{IsOfKind}
 use Rattle.fare_tariff.specs.Groups.{FitKinds}
-use Rattle.fare_tariff.proofs.KindLaws.{fit_none, fit_still, fit_more}
+use Rattle.fare_tariff.proofs.KindLaws.{fit_none, fit_still, fit_more, no_ride}
 use Rattle.fare_tariff.proofs.groups.find_kinds.Goals as goal
-
-abbrev none : CaughtRide
-none =
-    record {
-      ride = record { trip = record { 0 = 0 }; day = record { 0 = pos 0 }; shift = pos 0; from = 0; to = 0 };
-      facts = record { from = record { 0 = 0 }; to = record { 0 = 0 }; network = None; departure = record { 0 = pos 0 }; arrival = record { 0 = pos 0 } };
-    }
 
 pub loop-k-init : goal.loop-k-init
 loop-k-init c = record {
@@ -35,9 +26,10 @@ loop-k-preserved c =
     let kinds = c.loop-k.kinds.items in
     let kind = c.in_ok-kind.kind in
     let known = c.kind_of.new.self in
-    let fit = fit_more feed rides known kinds k kind (slice_index_or rides k none) was.many
-    (slice_get-get_or rides k none c.loop-k-test.true)
-    (subst (λ (t : FareTerms). IsOfKind known.lists (leg_facts t.feed (slice_index_or rides k none).facts) kind) was.terms c.in_ok-kind.ensures.kind)
+    let fit = fit_more feed rides known kinds k kind (slice_index_or rides k no_ride) was.many
+    (slice_get-get_or rides k no_ride c.loop-k-test.true)
+    (subst (λ (t : FareTerms). IsOfKind known.lists (leg_facts t.feed (slice_index_or rides k no_ride).facts) kind) was.terms
+    c.in_ok-kind.ensures.kind)
     (fit_still feed rides c.loop-k.known known kinds c.in_ok-kind.ensures.still was.fit) in
     let items = c.in_ok-push.ensures.items in
     let long = length_push kinds kind in

@@ -16,13 +16,13 @@ pub loop-number-preserved : goal.loop-number-preserved
 loop-number-preserved c =
     elim c.if-not-is_bettered.branch [
       | then-not-is_bettered+in_ok-push w ↦ rw w.moves-is (
-        best_more c.args.all.now c.loop-number.moves.items _ c.loop-number.number _ c.loop-number-test.true w.in_ok-push.ensures.items
-        c.loop-number.invariant
-      )
+          best_more c.args.all.now c.loop-number.moves.items _ c.loop-number.number _ c.loop-number-test.true w.in_ok-push.ensures.items
+          c.loop-number.invariant
+          )
       | else-not-is_bettered w ↦ rw w.moves-is (
-        best_past c.args.all.now c.loop-number.moves.items c.loop-number.number
-        (c.is_bettered.ensures.better w.if-not-is_bettered.false) c.loop-number.invariant
-      )
+          best_past c.args.all.now c.loop-number.moves.items c.loop-number.number
+          (c.is_bettered.ensures.better w.if-not-is_bettered.false) c.loop-number.invariant
+          )
     ]
 
 pub returns : goal.returns
