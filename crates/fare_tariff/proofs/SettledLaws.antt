@@ -1,5 +1,5 @@
 -- Rides that are late enough are settled after a fare.
-use Rattle.std.proofs.Common.{◌≡◌, refl, sym, ◌∙◌, ap, ℕ, List, arith, ℤ, ◌≤ℤ◌, ◌<ℤ◌}
+use Rattle.std.proofs.Common.{◌≡◌, refl, sym, ◌∙◌, ap, List, arith, ℤ, ◌≤ℤ◌, ◌<ℤ◌}
 use Rattle.std.specs.Prelude.{Option, Some, None, IfSome, slice_get, option_map}
 use Rattle.std.proofs.lemmas.Int.{ints}
 use Rattle.std.proofs.lemmas.Option.{same_Some, none-some}
@@ -25,7 +25,7 @@ use Rattle.round_terms.specs.Tasks.{Asked}
 use Rattle.round_terms.specs.Terms.{Facts}
 use Rattle.fare_tariff.specs.declared.fare.Fare.{Fare}
 use Rattle.fare_tariff.specs.declared.legs.FareLegs.{FareLegs}
-use Rattle.fare_tariff.specs.FareTerms.{IsKnown, IsSettledFor, Serves, TariffOf, fare_terms}
+use Rattle.fare_tariff.specs.FareTerms.{IsKnown, Serves, TariffOf, fare_terms}
 
 -- what is settled since a moment is so since a later one
 settled_later : (feed : FeedRows) (groups : List (Option LegGroupId)) (state : FareState) (at since : ℤ) → at ≤ℤ since →

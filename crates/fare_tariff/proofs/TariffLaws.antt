@@ -1,20 +1,17 @@
 -- What a tariff promises of a query's rides.
-use Rattle.std.proofs.Common.{◌≡◌, sym, subst, ap, ℕ, ◌+◌, ◌<◌, Bool, List, ⊎_elim, arith, ℤ, ◌≤ℤ◌, ◌<ℤ◌}
+use Rattle.std.proofs.Common.{◌≡◌, sym, subst, ℕ, ◌+◌, ◌<◌, Bool, List, ⊎_elim, arith, ℤ, ◌≤ℤ◌, ◌<ℤ◌}
 use Rattle.std.specs.Prelude.{Option, Some, None, IfSome, Result, Ok, Err, OnOk}
 use Rattle.std.proofs.lemmas.Int.{ints}
 use Rattle.transit_base.specs.declared.moments.Moment.{Moment}
-use Rattle.feed_rows.specs.declared.fares.Triple.{Triple}
 use Rattle.feed_rows.specs.declared.journeys.Buyer.{Buyer}
 use Rattle.feed_rows.specs.declared.journeys.RideFacts.{RideFacts}
 use Rattle.feed_rows.specs.declared.states.Move.{Move}
 use Rattle.feed_rows.specs.FeedRows.{FeedRows}
 use Rattle.feed_rows.specs.Legs.{leg_facts}
 use Rattle.fare_automaton.specs.Fewest.{AreEnoughMoves, AreFewerMoves}
-use Rattle.fare_automaton.specs.Terms.{FareTerms, terms}
-use Rattle.fare_bounds.specs.FareBounds.{BoundLists}
 use Rattle.plan_rides.specs.InTime.{IsWithinWindow}
 use Rattle.plan_rides.specs.declared.caught.CaughtRide.{CaughtRide}
-use Rattle.round_terms.specs.Costs.{AreLate, CostOn, IsDearer, IsLateIf, LeadsOn}
+use Rattle.round_terms.specs.Costs.{AreLate, CostOn, IsLateIf}
 use Rattle.round_terms.specs.Legs.{AreKnown}
 use Rattle.round_terms.specs.Tasks.{Asked, task_of}
 use Rattle.round_terms.specs.Terms.{AreEnough, Facts}
