@@ -40,7 +40,7 @@ use Rattle.fare_bounds.proofs.FirstLaws.{AreFirst, first_more, first_all}
 use Rattle.plan_rides.specs.Cutoffs.{is_enough, is_span, is_span_any}
 use Rattle.plan_rides.specs.Spans.{AreSpans, SpanLists, stands_of}
 use Rattle.fare_tariff.specs.Lasts.{AreLastGroups, AreLastMoves, AreLastNetworks, IsEnd, IsMarkedAt, IsOfMarked, StayMarked, network_place}
-use Rattle.plan_rounds.proofs.SpanLaws.{leads_early, step_ridden, step_within}
+use Rattle.fare_tariff.proofs.SpanLaws.{leads_early, step_ridden, step_within}
 
 -- ---- rows so far
 

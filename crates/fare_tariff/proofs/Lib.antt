@@ -1,3 +1,4 @@
+pub mod SpanLaws
 pub mod LastLaws
+pub mod WayLaws
 pub mod PriceLaws
-pub mod MoveLaws

@@ -125,18 +125,3 @@ fare_task of loose given = record {
   loose = loose;
   given = given;
 }
-
--- ---- what is known of rides
-
--- it is known of the ride at the place: of which kind its leg is, whose options are enough for it; their groups are among these, and
--- until when changes to those are arranged is told
-pub record IsKnown (feed : FeedRows) (buyer : Buyer) (legs : FareLegs) (place : ℕ) (ride : RideFacts) : Type 0 where
-  pub kind : ℕ
-  pub at : slice_get legs.kinds.items place ≡ Some kind
-  pub of : IsOfKind legs.known.lists (leg_facts feed ride) kind
-  pub grouped : IsGrouped feed buyer legs.groups.items (leg_facts feed ride)
-  pub changes : AreLastChanges feed legs.groups.items legs.changes
-
--- what is known is known by the fare rules for the buyer
-abbrev pub Knows : FeedRows → Buyer → FareLegs → Type 0
-Knows feed buyer legs = legs.known.terms ≡ terms feed buyer

@@ -1,6 +1,6 @@
 pub mod Lasts
 pub mod Prices
-pub mod Moves
 pub mod FareTerms
-pub mod FareOrder
+pub mod OrderLaws
+pub mod LeastLaws
 pub mod FareLaws

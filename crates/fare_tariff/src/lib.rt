@@ -3,16 +3,7 @@
 #![tactic(auto)]
 
 mod fare;
-mod fare_class;
-mod groups;
-mod lasts;
-mod legs;
-mod moves;
 mod prices;
-mod repeats;
-mod tariff;
 
 pub use fare::Fare;
-pub use legs::{FareLegs, FareRoom};
 pub use prices::LeastPrices;
-pub use tariff::FareTariff;
