@@ -1,7 +1,7 @@
 -- A search by the terms of fares goes as tables of partial journeys are told of: the same steps, starts and ends, which cover the same
 -- and cut off the same.
-use Rattle.std.proofs.Common.{◌≡◌, refl, sym, ◌∙◌, ap, subst, ℕ, zero, suc, ◌+◌, inl, inr, ⊎_elim, Bool, true, false, List}
-use Rattle.std.specs.Prelude.{All, Contains, Some, slice_get, take, is_none, ◌==◌}
+use Rattle.std.proofs.Common.{◌≡◌, refl, sym, ◌∙◌, ap, subst, ℕ, zero, suc, inl, inr, ⊎_elim, Bool, true, false, List}
+use Rattle.std.specs.Prelude.{All, is_none, take}
 use Rattle.std.proofs.lemmas.List.Elements.{All-contains}
 use Rattle.transit_base.specs.declared.numbers.StopId.{StopId}
 use Rattle.feed_rows.specs.declared.fares.Triple.{Triple}
@@ -16,7 +16,7 @@ use Rattle.plain_laws.proofs.Laws.{All-from}
 use Rattle.round_laws.specs.Futility.{is_within, least_end, outdoes}
 use Rattle.round_laws.specs.LabelSteps.{IsLabelEnd, IsLabelStep, IsStated, ways as label_ways}
 use Rattle.round_laws.proofs.OutdoneLaws.{ahead_of_outdone, outdone_of_ahead}
-use Rattle.round_terms.specs.Steps.{IsEnd, IsStep, start_facts, ways}
+use Rattle.round_terms.specs.Steps.{IsEnd, IsStep, ways}
 use Rattle.round_terms.specs.Tasks.{Task}
 use Rattle.round_terms.specs.Terms.{Covers as CoversFacts, Facts}
 use Rattle.search_laws.specs.Cuts.{MayLack}
