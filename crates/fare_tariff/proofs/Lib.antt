@@ -1,4 +1,4 @@
-pub mod SpanLaws
+pub mod StepLaws
 pub mod LastLaws
 pub mod WayLaws
 pub mod PriceLaws

@@ -30,8 +30,8 @@ use Rattle.search_laws.specs.Ways.{LeadsBy}
 use Rattle.fare_tariff.specs.declared.fare.Fare.{Fare}
 use Rattle.fare_tariff.specs.FareTerms.{AreLeast, IsFare, IsLateAfter, Serves, TariffOf, at_most, fare_task, fare_terms, label_facts}
 use Rattle.fare_tariff.specs.Lasts.{AreLastMoves}
-use Rattle.fare_tariff.specs.Prices.{far}
-use Rattle.fare_tariff.proofs.SpanLaws.{leads_few, step_within}
+use Rattle.fare_tariff.specs.Prices.{far, least_on}
+use Rattle.fare_tariff.proofs.StepLaws.{step_within}
 use Rattle.fare_tariff.proofs.WayLaws.{leads_of, step_of}
 
 below : (x y z : ℤ) → x ≤ℤ y → y ≤ℤ z → x ≤ℤ z
@@ -121,16 +121,12 @@ leads_low feed query sound (suc n) a triple low leads =
         z ≤ℤ (p +ℤ pos (suc n * (3 * 10 ^ 12) + 10 ^ 12))
     further z p m q is low le = omega (arith, ints, is, low, le)
 
--- no journey costs as much as what is far, whatever goes on from a fare
-pub far_never : (of : TariffOf) (loose : Bool) (given : List Triple) → IsSoundFeed of.feed → (n : ℕ) (a : Facts Fare) (triple : Triple) →
-    of.query.rides ≤ most_rides → a.rides ≤ of.query.rides → IsFare a.rides a.fare → LeadsBy (ways (fare_task of loose given)) n a triple →
+-- nothing costs as much as what is far to which a fare leads by no more rides than a query can allow
+never_far : (feed : FeedRows) (query : Query) → IsSoundFeed feed → (n : ℕ) (a : LabelFacts) (triple : Triple) → n ≤ most_rides →
+    a.rides ≤ most_rides → nat_abs a.paid ≤ 3 * 10 ^ 12 * a.rides → nat_abs a.held ≤ 10 ^ 12 → LeadsBy (label_ways feed query) n a triple →
     far ≤ℤ triple.price.0 → ⊥
-far_never of loose given sound n a triple most rides fare leads far_off =
-    let own = leads_of of loose given n a triple leads in
-    let few : n ≤ 8 =
-    ⊎_elim (λ none. omega (arith, none)) (λ le. omega (arith, le, most)) (leads_few of.feed of.query n (label_facts a) triple own) in
-    over triple.price.0 a.fare.paid.0 a.rides n few (omega (arith, most, rides)) fare.paid far_off
-    (leads_low of.feed of.query sound n (label_facts a) triple fare.held own)
+never_far feed query sound n a triple few rides paid held leads costs =
+    over triple.price.0 a.paid a.rides n few rides paid costs (leads_low feed query sound n a triple held leads)
   where
     over : (z p : ℤ) (k m : ℕ) → m ≤ 8 → k ≤ 8 → nat_abs p ≤ 3 * 10 ^ 12 * k → far ≤ℤ z →
         z ≤ℤ (p +ℤ pos (m * (3 * 10 ^ 12) + 10 ^ 12)) → ⊥
@@ -138,49 +134,29 @@ far_never of loose given sound n a triple most rides fare leads far_off =
 
 -- ---- what a tariff tells
 
--- the least price that is told of a ride, a late one where that is asked, and so many more
-abbrev pub least_told : BoundLists → Bool → ℕ → Facts Fare → ℤ
-least_told bounds true behind a = least_late bounds (behind + 1) a.fare.state a.fare.paid.0 a.fare.held.0
-least_told bounds false behind a = least_more bounds (behind + 1) a.fare.state a.fare.paid.0 a.fare.held.0
-
--- it is told, or none where it is far
-pub record IsLeastTold (bounds : BoundLists) (late : Bool) (behind : ℕ) (a : Facts Fare) (price : Option LeastPrice) : Type 0 where
-  pub some : (least : LeastPrice) → price ≡ Some least → least.0 ≡ least_told bounds late behind a
-  pub none : price ≡ None → far ≤ℤ least_told bounds late behind a
-
--- the journey's price is no less than a price that is told, and none is told of no journey
-dearer : (told : ℤ) (triple : Triple) (price : Option LeastPrice) → told ≤ℤ triple.price.0 →
-    ((least : LeastPrice) → price ≡ Some least → least.0 ≡ told) → (price ≡ None → ⊥) → IsDearer price triple
-dearer told triple None above some none = absurd (none refl)
-dearer told triple (Some least) above some none =
-    record { least = least; is = refl; below = subst (λ (z : ℤ). z ≤ℤ triple.price.0) (sym (some least refl)) above }
-
-module _ (of : TariffOf) (loose : Bool) (given : List Triple) (sound : IsSoundFeed of.feed) (are : AreLeast of.feed of.query of.bounds) where
+module _ (of : TariffOf) (loose : Bool) (given : List Triple) (sound : IsSoundFeed of.feed) where
   abbrev task : Task Fare Move
   task = fare_task of loose given
 
   -- no journey costs less than what is told of its next rides
-  pub told_above : (n : ℕ) (a : Facts Fare) (late : Bool) (triple : Triple) → n < of.query.rides → IsWithinWindow of.query a.arrival →
-      LeadsOn task (IsLateIf (fare_terms of) a late) n a triple → least_told of.bounds late n a ≤ℤ triple.price.0
-  told_above n a true triple few within leads =
+  pub least_told : AreLeast of.feed of.query of.bounds → (n : ℕ) (a : Facts Fare) (late : Bool) (triple : Triple) → n < of.query.rides →
+      IsWithinWindow of.query a.arrival → LeadsOn task (IsLateIf (fare_terms of) a late) n a triple →
+      least_on of.bounds late n (label_facts a) ≤ℤ triple.price.0
+  least_told are n a true triple few within leads =
       let b = leads.2 in
       late_above of.feed of.query are.lasts of.bounds sound are.bounds are.are n (label_facts a) (label_facts b) leads.0 leads.1
       (step_of of loose given a b leads.0 leads.1 leads.3) triple few within (leads.4 refl) (leads_of of loose given n b triple leads.5)
-  told_above n a false triple few within leads =
+  least_told are n a false triple few within leads =
       let b = leads.2 in
       leads_above of.feed of.query are.lasts of.bounds sound are.bounds are.are n (label_facts a) triple few within
       (leads_of of loose given (suc n) a triple (leads.0, leads.1, b, leads.3, leads.5))
 
-  -- so what is told is a price that none costs less than
-  pub cost_told : of.query.rides ≤ most_rides → (n : ℕ) (a : Facts Fare) (late : Bool) (price : Option LeastPrice) → IsFare a.rides a.fare →
-      IsWithinWindow of.query a.arrival → a.rides + n < of.query.rides → IsLeastTold of.bounds late n a price →
-      CostOn task (IsLateIf (fare_terms of) a late) n a price
-  cost_told most n a late price fare within few told triple leads =
-      let above = told_above n a late triple (omega (arith, few)) within leads in
-      dearer (least_told of.bounds late n a) triple price above told.some
-      (λ none. far_never of loose given sound (suc n) a triple most (omega (arith, few)) fare
-      (leads.0, leads.1, leads.2, leads.3, leads.5)
-      (below far (least_told of.bounds late n a) triple.price.0 (told.none none) above))
+  -- no journey costs as much as what is far
+  pub none_far : of.query.rides ≤ most_rides → (n : ℕ) (a : Facts Fare) (late : Bool) (triple : Triple) → IsFare a.rides a.fare →
+      a.rides + n < of.query.rides → LeadsOn task (IsLateIf (fare_terms of) a late) n a triple → far ≤ℤ triple.price.0 → ⊥
+  none_far most n a late triple fare few leads costs =
+      never_far of.feed of.query sound (suc n) (label_facts a) triple (omega (arith, few, most)) (omega (arith, few, most)) fare.paid fare.held
+      (leads_of of loose given (suc n) a triple (leads.0, leads.1, leads.2, leads.3, leads.5)) costs
 
 -- ---- whatever is asked of a tariff that serves is asked of its own feed and query
 
@@ -205,14 +181,32 @@ by_own P own asked serves =
     subst P (same_asked asked serves)
     (own asked.tariff asked.loose asked.given (subst Serves (sym (same_asked asked serves)) serves))
 
--- what is told keeps the promise of a tariff
-pub fare_cost_on : (asked : Asked TariffOf) → Serves asked → (behind : ℕ) (a : Facts Fare) (late : Bool) (price : Option LeastPrice) →
-    IsFare a.rides a.fare → IsWithinWindow asked.query a.arrival → a.rides + behind < asked.query.rides →
-    IsLeastTold asked.tariff.bounds late behind a price →
-    CostOn (task_of at_most fare_terms asked) (IsLateIf (fare_terms asked.tariff) a late) behind a price
-fare_cost_on asked serves behind a late price fare within few told =
-    by_own (λ (asked : Asked TariffOf).
-    IsWithinWindow asked.query a.arrival → a.rides + behind < asked.query.rides → IsLeastTold asked.tariff.bounds late behind a price →
-    CostOn (task_of at_most fare_terms asked) (IsLateIf (fare_terms asked.tariff) a late) behind a price)
-    (λ of loose given own within few told.
-    cost_told of loose given own.sound own.least own.usual.rides behind a late price fare within few told) asked serves within few told
+-- no journey costs less that goes on so
+pub fare_cost_on : (asked : Asked TariffOf) → Serves asked → (late : Bool) (behind : ℕ) (a : Facts Fare) → IsFare a.rides a.fare →
+    IsWithinWindow asked.query a.arrival → a.rides + behind < asked.query.rides →
+    CostOn (task_of at_most fare_terms asked) (IsLateIf (fare_terms asked.tariff) a late) behind a
+    (Some (record { 0 = least_on asked.tariff.bounds late behind (label_facts a) }))
+fare_cost_on asked serves late behind a fare =
+    by_own (λ (asked : Asked TariffOf). IsWithinWindow asked.query a.arrival → a.rides + behind < asked.query.rides →
+    CostOn (task_of at_most fare_terms asked) (IsLateIf (fare_terms asked.tariff) a late) behind a
+    (Some (record { 0 = least_on asked.tariff.bounds late behind (label_facts a) })))
+    (λ of loose given own within few triple leads.
+    record {
+      least = record { 0 = least_on of.bounds late behind (label_facts a) };
+      is = refl;
+      below = least_told of loose given own.sound own.least behind a late triple (omega (arith, few)) within leads;
+    }) asked serves
+
+-- no journey goes on so where it would cost more than any
+pub far_never : (asked : Asked TariffOf) → Serves asked → (late : Bool) (behind : ℕ) (a : Facts Fare) → IsFare a.rides a.fare →
+    IsWithinWindow asked.query a.arrival → a.rides + behind < asked.query.rides →
+    far ≤ℤ least_on asked.tariff.bounds late behind (label_facts a) → (triple : Triple) →
+    LeadsOn (task_of at_most fare_terms asked) (IsLateIf (fare_terms asked.tariff) a late) behind a triple → ⊥
+far_never asked serves late behind a fare =
+    by_own (λ (asked : Asked TariffOf). IsWithinWindow asked.query a.arrival → a.rides + behind < asked.query.rides →
+    far ≤ℤ least_on asked.tariff.bounds late behind (label_facts a) → (triple : Triple) →
+    LeadsOn (task_of at_most fare_terms asked) (IsLateIf (fare_terms asked.tariff) a late) behind a triple → ⊥)
+    (λ of loose given own within few costs triple leads.
+    none_far of loose given own.sound own.usual.rides behind a late triple fare few leads
+    (below far (least_on of.bounds late behind (label_facts a)) triple.price.0 costs
+    (least_told of loose given own.sound own.least behind a late triple (omega (arith, few)) within leads))) asked serves

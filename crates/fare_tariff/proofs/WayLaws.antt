@@ -26,7 +26,7 @@ use Rattle.search_laws.specs.Ways.{IsReached, LeadsBy}
 use Rattle.fare_tariff.specs.declared.fare.Fare.{Fare}
 use Rattle.fare_tariff.specs.FareLaws.{fare_begins, fare_stays}
 use Rattle.fare_tariff.specs.FareTerms.{IsFare, TariffOf, at_most, facts_by, fare_task, fare_terms, label_facts}
-use Rattle.fare_tariff.specs.OrderLaws.{at_most-holds, at_most-tells}
+use Rattle.fare_tariff.specs.FareOrder.{at_most-holds, at_most-tells}
 
 -- ---- what covers
 

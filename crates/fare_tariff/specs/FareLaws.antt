@@ -19,7 +19,7 @@ use Rattle.round_terms.specs.Terms.{Covers, Facts, IsLawful, PaysNoWorse}
 use Rattle.fare_tariff.specs.declared.fare.Fare.{Fare}
 use Rattle.fare_tariff.specs.FareTerms.{IsFare, IsSettledFor, Serves, TariffOf, at_most, fare_terms, label_facts}
 use Rattle.fare_tariff.specs.LeastLaws.{end_covered, end_low, end_stays}
-use Rattle.fare_tariff.specs.OrderLaws.{at_most-holds, at_most-tells}
+use Rattle.fare_tariff.specs.FareOrder.{at_most-holds, at_most-tells}
 
 -- nothing is paid before the first ride
 pub fare_begins : (of : TariffOf) → IsFare 0 (fare_terms of).begins

@@ -1,6 +1,6 @@
 pub mod Lasts
 pub mod Prices
 pub mod FareTerms
-pub mod OrderLaws
+pub mod FareOrder
 pub mod LeastLaws
 pub mod FareLaws
