@@ -1,6 +1,6 @@
 -- How little further rides can cost, by what one move leads to, and that no journey costs too much to be told.
-use Rattle.std.proofs.Common.{◌≡◌, refl, sym, ◌∙◌, subst, ap, ℕ, zero, suc, ◌+◌, ◌*◌, ◌^◌, ◌<◌, ◌≤◌, ⊎_elim, add-one, arith, ℤ, pos, ◌+ℤ◌, ◌≤ℤ◌, ◌<ℤ◌}
-use Rattle.std.specs.Prelude.{Bool, true, false, List, Option, Some, None, nat_abs}
+use Rattle.std.proofs.Common.{◌≡◌, refl, sym, ◌∙◌, subst, ap, ℕ, zero, suc, ◌+◌, ◌*◌, ◌^◌, ◌<◌, ◌≤◌, add-one, arith, ℤ, pos, ◌+ℤ◌, ◌≤ℤ◌, ◌<ℤ◌}
+use Rattle.std.specs.Prelude.{Bool, true, false, List, Some, nat_abs}
 use Rattle.std.specs.Option.{ForSome}
 use Rattle.std.proofs.lemmas.Int.{ints}
 use Rattle.std.proofs.lemmas.Option.{same_Some}
@@ -21,8 +21,7 @@ use Rattle.fare_laws.proofs.SmallLaws.{move_small}
 use Rattle.fare_bounds.specs.FareBounds.{AreFareBounds, BoundLists, late_after, least_late, least_more}
 use Rattle.plan_rides.specs.InTime.{IsWithinWindow}
 use Rattle.round_laws.specs.LabelSteps.{IsLabelStep, ways as label_ways}
-use Rattle.round_terms.specs.declared.tariff.LeastPrice.{LeastPrice}
-use Rattle.round_terms.specs.Costs.{CostOn, IsDearer, IsLateIf, LeadsOn}
+use Rattle.round_terms.specs.Costs.{CostOn, IsLateIf, LeadsOn}
 use Rattle.round_terms.specs.Steps.{ways}
 use Rattle.round_terms.specs.Tasks.{Asked, Task, task_of}
 use Rattle.round_terms.specs.Terms.{Facts}
