@@ -141,6 +141,7 @@ module _ (of : TariffOf) (loose : Bool) (given : List Triple) (sound : IsSoundFe
   pub least_told : AreLeast of.feed of.query of.bounds → (n : ℕ) (a : Facts Fare) (late : Bool) (triple : Triple) → n < of.query.rides →
       IsWithinWindow of.query a.arrival → LeadsOn task (IsLateIf (fare_terms of) a late) n a triple →
       least_on of.bounds late n (label_facts a) ≤ℤ triple.price.0
+  unfolding step_of
   least_told are n a true triple few within leads =
       let b = leads.2 in
       late_above of.feed of.query are.lasts of.bounds sound are.bounds are.are n (label_facts a) (label_facts b) leads.0 leads.1

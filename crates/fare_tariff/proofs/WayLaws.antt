@@ -52,7 +52,7 @@ module _ (of : TariffOf) (loose : Bool) (given : List Triple) where
 
   -- ---- steps, starts and ends
 
-  pub step_of : (a b : Facts Fare) (ride : Ride) (move : Move) → IsStep task a ride move b →
+  unfoldable pub step_of : (a b : Facts Fare) (ride : Ride) (move : Move) → IsStep task a ride move b →
       IsLabelStep of.feed of.query (label_facts a) ride move (label_facts b)
   step_of a b ride move step = record {
     facts = step.facts;

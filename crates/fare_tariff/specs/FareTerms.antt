@@ -81,9 +81,9 @@ pub record IsSettledFor (feed : FeedRows) (buyer : Buyer) (state : Option FareSt
       filled_and (asked_after own next) (is_arranged_after feed) ≡ false
 
 -- they are bounds by the fare rules for the query's buyer and rides, and for journeys that end with legs of these groups, as all do
-pub record AreLeast (feed : FeedRows) (query : Query) (bounds : BoundLists) : Type 0 where
+pub record AreLeast (feed : FeedRows) (query : Query) (told : BoundLists) : Type 0 where
   pub lasts : List Bool
-  pub bounds : AreFareBounds feed query.buyer query.rides lasts bounds
+  pub bounds : AreFareBounds feed query.buyer query.rides lasts told
   pub are : AreLastMoves feed query lasts
 
 -- the feed and the query, whether the search is to be whole, and what further rides cost at least
