@@ -22,7 +22,6 @@ use Rattle.fare_bounds.specs.FareBounds.{AreFareBounds, BoundLists, late_after, 
 use Rattle.plan_rides.specs.InTime.{IsWithinWindow}
 use Rattle.round_laws.specs.LabelSteps.{IsLabelStep, ways as label_ways}
 use Rattle.round_terms.specs.Costs.{CostOn, IsLateIf, LeadsOn}
-use Rattle.round_terms.specs.Steps.{ways}
 use Rattle.round_terms.specs.Tasks.{Asked, Task, task_of}
 use Rattle.round_terms.specs.Terms.{Facts}
 use Rattle.search_laws.specs.Ways.{LeadsBy}

@@ -39,6 +39,10 @@ same_state = option_eq same_parts
 unfoldable pub at_most : Fare → Fare → Bool
 at_most a b = is_no_dearer (spent_of a) (spent_of b) && same_state a.state b.state
 
+-- what is kept after a move that pays one ride more
+abbrev pub fare_after : Fare → Move → Fare
+fare_after fare move = record { paid = record { 0 = fare.paid.0 +ℤ move.paid.0 }; held = move.held; state = Some move.state }
+
 -- the amounts are within what so many rides can cost, and there is a state exactly where there is a ride
 pub record IsFare (rides : ℕ) (fare : Fare) : Type 0 where
   pub paid : nat_abs fare.paid.0 ≤ 3 * 10 ^ 12 * rides
@@ -97,7 +101,7 @@ abbrev pub fare_terms : TariffOf → Terms Fare Move
 fare_terms of = record {
   begins = record { paid = record { 0 = pos 0 }; held = record { 0 = pos 0 }; state = None };
   Pays = λ a ride move. move_after of.feed of.query.buyer a.fare.state a.fare.held.0 (leg_facts of.feed ride) move ≡ Some move;
-  after = λ a ride move. record { paid = record { 0 = a.fare.paid.0 +ℤ move.paid.0 }; held = move.held; state = Some move.state };
+  after = λ a ride move. fare_after a.fare move;
   price = λ fare. fare.paid.0 +ℤ fare.held.0;
   least = λ a. least_end of.feed of.query of.whole (label_facts a);
   IsLate = λ a ride. IsLateAfter of.bounds a.fare.state ride;
