@@ -62,7 +62,8 @@ module _ (feed : FeedRows) (query : Query) (lasts : List Bool) (bounds : BoundLi
           (are.on m lt a.state a.paid a.held (leg_facts feed leads.3.facts) leads.1 leads.3.pays)
 
   -- the leg that is a ride which departs later than told is late, and doesn't arrive before it departs
-  late : (a b : LabelFacts) (ride : Ride) (move : Move) (step : IsLabelStep feed query a ride move b) → IsLateAfter bounds a.state step.facts →
+  late : (a b : LabelFacts) (ride : Ride) (move : Move) (step : IsLabelStep feed query a ride move b) →
+      IsLateAfter bounds a.state step.facts →
       ForSome (late_after bounds a.state) (λ moment. moment <ℤ (leg_facts feed step.facts).departure.0)
       × ((leg_facts feed step.facts).departure.0 ≤ℤ (leg_facts feed step.facts).arrival.0)
   unfolding leg_facts
@@ -77,7 +78,8 @@ module _ (feed : FeedRows) (query : Query) (lasts : List Bool) (bounds : BoundLi
 
   -- no journey that goes on by a late ride and so many more costs less
   pub late_above : (n : ℕ) (a b : LabelFacts) (ride : Ride) (move : Move) (step : IsLabelStep feed query a ride move b) (triple : Triple) →
-      n < query.rides → IsWithinWindow query a.arrival → IsLateAfter bounds a.state step.facts → LeadsBy (label_ways feed query) n b triple →
+      n < query.rides → IsWithinWindow query a.arrival → IsLateAfter bounds a.state step.facts →
+      LeadsBy (label_ways feed query) n b triple →
       told_late (n + 1) a ≤ℤ triple.price.0
   late_above zero a b ride move step triple few within is leads =
       let comes = late a b ride move step is in
@@ -154,7 +156,8 @@ module _ (of : TariffOf) (loose : Bool) (given : List Triple) (sound : IsSoundFe
   pub none_far : of.query.rides ≤ most_rides → (n : ℕ) (a : Facts Fare) (late : Bool) (triple : Triple) → IsFare a.rides a.fare →
       a.rides + n < of.query.rides → LeadsOn task (IsLateIf (fare_terms of) a late) n a triple → far ≤ℤ triple.price.0 → ⊥
   none_far most n a late triple fare few leads costs =
-      never_far of.feed of.query sound (suc n) (label_facts a) triple (omega (arith, few, most)) (omega (arith, few, most)) fare.paid fare.held
+      never_far of.feed of.query sound (suc n) (label_facts a) triple (omega (arith, few, most)) (omega (arith, few, most))
+      fare.paid fare.held
       (leads_of of loose given (suc n) a triple (leads.0, leads.1, leads.2, leads.3, leads.5)) costs
 
 -- ---- whatever is asked of a tariff that serves is asked of its own feed and query

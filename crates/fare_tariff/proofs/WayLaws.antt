@@ -131,7 +131,8 @@ module _ (of : TariffOf) (loose : Bool) (given : List Triple) where
   leads_by sound (suc n) a triple fare leads =
       let b = leads.2 in
       let step = step_by a b leads.0 leads.1 fare leads.3 in
-      (leads.0, leads.1, facts_by b, step, leads_by sound n b triple (fare_of_step sound (facts_by a) (facts_by b) leads.0 leads.1 step) leads.4)
+      let own = fare_of_step sound (facts_by a) (facts_by b) leads.0 leads.1 step in
+      (leads.0, leads.1, facts_by b, step, leads_by sound n b triple own leads.4)
 
   -- ---- what is cut off
 

@@ -61,7 +61,9 @@ module _ (of : TariffOf) where
       at_most-holds (after a ride move) (after b ride other) (record {
         spent = record {
           paid = less;
-          price = with_held (a.fare.paid.0 +ℤ move.paid.0) (b.fare.paid.0 +ℤ other.paid.0) move.held.0 other.held.0 less (ap (λ h. h.0) held);
+          price =
+              with_held (a.fare.paid.0 +ℤ move.paid.0) (b.fare.paid.0 +ℤ other.paid.0) move.held.0 other.held.0 less
+              (ap (λ h. h.0) held);
         };
         state = ap Some state;
       })
@@ -74,12 +76,14 @@ module _ (of : TariffOf) where
       let m =
       leads_too of.feed of.query.buyer a.fare.state a.fare.paid.0 a.fare.held.0 b.fare.paid.0 b.fare.held.0 leg move below.spent.paid
       below.spent.price
-      (subst (λ (state : Option FareState). move_after of.feed of.query.buyer state b.fare.held.0 leg move ≡ Some move) (sym below.state) pays) in
+      (subst (λ (state : Option FareState). move_after of.feed of.query.buyer state b.fare.held.0 leg move ≡ Some move)
+      (sym below.state) pays) in
       record { move = m.move; pays = m.is; below = no_worse a b ride m.move move m.state_is m.held_is m.paid_less }
 
   -- from a state from which no change to a leg is arranged a move is like one of a first leg, and so like one from any other such
   settles : (a b : Facts Fare) (ride : RideFacts) (move : Move) → IsSettledFor of.feed of.query.buyer a.fare.state ride →
-      IsSettledFor of.feed of.query.buyer b.fare.state ride → (fare_terms of).price a.fare ≤ℤ (fare_terms of).price b.fare → Pays b ride move →
+      IsSettledFor of.feed of.query.buyer b.fare.state ride → (fare_terms of).price a.fare ≤ℤ (fare_terms of).price b.fare →
+      Pays b ride move →
       PaysNoWorse at_most (fare_terms of) a ride (after b ride move)
   settles a b ride move own other cheaper pays =
       let leg = leg_facts of.feed ride in
@@ -90,8 +94,8 @@ module _ (of : TariffOf) where
       record {
         move = next.0;
         pays =
-            subst (λ (state : Option FareState). move_after of.feed of.query.buyer state a.fare.held.0 leg next.0 ≡ Some next.0) (sym own.is)
-            next.1;
+            subst (λ (state : Option FareState). move_after of.feed of.query.buyer state a.fare.held.0 leg next.0 ≡ Some next.0)
+            (sym own.is) next.1;
         below =
             no_worse a b ride next.0 move (next.2.state ∙ sym first.2.state) (next.2.holds ∙ sym first.2.holds)
             (paid_up a.fare.paid.0 b.fare.paid.0 a.fare.held.0 b.fare.held.0 next.0.paid.0 move.paid.0 cheaper next.2.paid first.2.paid);
