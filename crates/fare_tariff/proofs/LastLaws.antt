@@ -40,7 +40,7 @@ use Rattle.fare_bounds.proofs.FirstLaws.{AreFirst, first_more, first_all}
 use Rattle.plan_rides.specs.Cutoffs.{is_enough, is_span, is_span_any}
 use Rattle.plan_rides.specs.Spans.{AreSpans, SpanLists, stands_of}
 use Rattle.fare_tariff.specs.Lasts.{AreLastGroups, AreLastMoves, AreLastNetworks, IsEnd, IsMarkedAt, IsOfMarked, StayMarked, network_place}
-use Rattle.plan_rounds.proofs.SpanLaws.{leads_early, step_ridden, step_within}
+use Rattle.fare_tariff.proofs.StepLaws.{ends_early, step_ridden, step_within}
 
 -- ---- rows so far
 
@@ -237,7 +237,7 @@ last_moves feed query lists networks lasts sound spans marked groups a b ride mo
     let ends = stands_of lists 0 in
     let ridden = step_ridden feed query a b ride move step in
     let inside = step_within feed query a b ride move sound within step in
-    let early = leads_early feed query lists sound spans 0 b ridden inside 0 (omega arith) triple (last, end) in
+    let early = ends_early feed query ends spans.ends b ridden inside last triple end in
     let ended = end_is ends b.stop _ early in
     let here = ride_marked feed ends networks ride step.facts sound marked step.rides.is
     (subst (IsEnd ends) (ap (λ (x : LabelFacts). x.stop) step.next) ended) in

@@ -1,32 +1,36 @@
--- How little further rides can cost, by what one move leads to.
-use Rattle.std.proofs.Common.{◌≡◌, refl, sym, subst, ap, ℕ, zero, suc, ◌+◌, ◌*◌, ◌^◌, ◌<◌, ◌≤◌, ⊎_elim, add-one, arith, ℤ, pos, ◌+ℤ◌, ◌≤ℤ◌, ◌<ℤ◌}
-use Rattle.std.specs.Prelude.{Bool, ◌-◌, List, Option, Some, None, nat_abs}
+-- How little further rides can cost, by what one move leads to, and that no journey costs too much to be told.
+use Rattle.std.proofs.Common.{◌≡◌, refl, sym, ◌∙◌, subst, ap, ℕ, zero, suc, ◌+◌, ◌*◌, ◌^◌, ◌<◌, ◌≤◌, add-one, arith, ℤ, pos, ◌+ℤ◌, ◌≤ℤ◌, ◌<ℤ◌}
+use Rattle.std.specs.Prelude.{Bool, true, false, List, Some, nat_abs}
 use Rattle.std.specs.Option.{ForSome}
 use Rattle.std.proofs.lemmas.Int.{ints}
-use Rattle.transit_base.specs.declared.moments.Moment.{Moment}
-use Rattle.fare_bounds.specs.FareBounds.{AreFareBounds, BoundLists, late_after, least_late, least_more}
-use Rattle.feed_laws.proofs.RideLaws.{ride_facts_timed}
-use Rattle.feed_laws.proofs.SoundTrips.{sound_trip}
+use Rattle.std.proofs.lemmas.Option.{same_Some}
 use Rattle.transit_base.specs.Limits.{most_time}
+use Rattle.feed_rows.specs.Limits.{most_rides}
 use Rattle.feed_rows.specs.declared.fares.Triple.{Triple}
 use Rattle.feed_rows.specs.declared.journeys.Query.{Query}
+use Rattle.feed_rows.specs.declared.journeys.Ride.{Ride}
+use Rattle.feed_rows.specs.declared.states.Move.{Move}
 use Rattle.feed_rows.specs.FeedRows.{FeedRows}
 use Rattle.feed_rows.specs.LabelCover.{price_so_far}
 use Rattle.feed_rows.specs.Legs.{leg_facts}
 use Rattle.feed_rows.specs.PartialJourneys.{LabelFacts}
 use Rattle.feed_rows.specs.SoundFeed.{IsSoundFeed}
-use Rattle.plan_rides.specs.InTime.{IsWithinWindow, deadline}
-use Rattle.round_labels.specs.declared.label.Label.{Label}
-use Rattle.round_labels.specs.Labels.{IsBounded, facts_of}
-use Rattle.plan_rounds.specs.Bounds.{CostsBy, CostsOn, IsSince, LeadsOn, since_of}
-use Rattle.fare_tariff.specs.Lasts.{AreLastMoves}
-use Rattle.plan_rounds.specs.Stores.{StepsTo}
-use Rattle.fare_tariff.specs.Prices.{AreLeastPrices, IsLateSince, far, least_since}
-use Rattle.fare_tariff.specs.declared.prices.LeastPrices.{LeastPrices}
+use Rattle.feed_laws.proofs.RideLaws.{ride_facts_timed}
+use Rattle.feed_laws.proofs.SoundTrips.{sound_trip}
 use Rattle.fare_laws.proofs.SmallLaws.{move_small}
-use Rattle.plan_rounds.proofs.SpanLaws.{leads_few, step_within}
-use Rattle.round_laws.specs.LabelSteps.{ways}
+use Rattle.fare_bounds.specs.FareBounds.{AreFareBounds, BoundLists, late_after, least_late, least_more}
+use Rattle.plan_rides.specs.InTime.{IsWithinWindow}
+use Rattle.round_laws.specs.LabelSteps.{IsLabelStep, ways as label_ways}
+use Rattle.round_terms.specs.Costs.{CostOn, IsLateIf, LeadsOn}
+use Rattle.round_terms.specs.Tasks.{Asked, Task, task_of}
+use Rattle.round_terms.specs.Terms.{Facts}
 use Rattle.search_laws.specs.Ways.{LeadsBy}
+use Rattle.fare_tariff.specs.declared.fare.Fare.{Fare}
+use Rattle.fare_tariff.specs.FareTerms.{AreLeast, IsFare, IsLateAfter, Serves, TariffOf, at_most, fare_task, fare_terms, label_facts}
+use Rattle.fare_tariff.specs.Lasts.{AreLastMoves}
+use Rattle.fare_tariff.specs.Prices.{far, least_on}
+use Rattle.fare_tariff.proofs.StepLaws.{step_within}
+use Rattle.fare_tariff.proofs.WayLaws.{leads_of, step_of}
 
 below : (x y z : ℤ) → x ≤ℤ y → y ≤ℤ z → x ≤ℤ z
 below x y z p q = omega (arith, ints, p, q)
@@ -39,7 +43,7 @@ module _ (feed : FeedRows) (query : Query) (lasts : List Bool) (bounds : BoundLi
 
   -- no journey that takes so many further rides costs less
   pub leads_above : (n : ℕ) (a : LabelFacts) (triple : Triple) → n < query.rides → IsWithinWindow query a.arrival →
-      LeadsBy (ways feed query) (suc n) a triple → told (n + 1) a ≤ℤ triple.price.0
+      LeadsBy (label_ways feed query) (suc n) a triple → told (n + 1) a ≤ℤ triple.price.0
   leads_above zero a triple few within leads =
       let step = leads.3 in
       subst (λ (z : ℤ). told 1 a ≤ℤ z) (sym leads.4.1.price)
@@ -57,73 +61,50 @@ module _ (feed : FeedRows) (query : Query) (lasts : List Bool) (bounds : BoundLi
           subst (λ (x : LabelFacts). told (m + 1) a ≤ℤ told m x) (sym leads.3.next)
           (are.on m lt a.state a.paid a.held (leg_facts feed leads.3.facts) leads.1 leads.3.pays)
 
-  -- the leg that is a ride which departs later than such a moment is late, and doesn't arrive before it departs
-  late : (a b : LabelFacts) (to : StepsTo feed query a b) (since : Moment) → IsLateSince bounds a.state (deadline query) since →
-      since.0 <ℤ to.2.facts.departure.0 →
-      ForSome (late_after bounds a.state) (λ moment. moment <ℤ (leg_facts feed to.2.facts).departure.0)
-      × ((leg_facts feed to.2.facts).departure.0 ≤ℤ (leg_facts feed to.2.facts).arrival.0)
+  -- the leg that is a ride which departs later than told is late, and doesn't arrive before it departs
+  late : (a b : LabelFacts) (ride : Ride) (move : Move) (step : IsLabelStep feed query a ride move b) →
+      IsLateAfter bounds a.state step.facts →
+      ForSome (late_after bounds a.state) (λ moment. moment <ℤ (leg_facts feed step.facts).departure.0)
+      × ((leg_facts feed step.facts).departure.0 ≤ℤ (leg_facts feed step.facts).arrival.0)
   unfolding leg_facts
-  late a b to since is departs =
-      let forward = (ride_facts_timed feed to.0 to.2.facts most_time (sound_trip feed to.0.trip sound) to.2.rides.is).forward in
-      let in_time = to.2.rides.in_time in (
-        λ moment at.
-            ⊎_elim (λ before. after_it moment since.0 to.2.facts.departure.0 before departs)
-            (λ past. absurd (never since.0 to.2.facts.departure.0 to.2.facts.arrival.0 (deadline query) departs forward in_time past))
-            (is moment at),
-        forward,
-      )
-    where
-      after_it : (x y z : ℤ) → x ≤ℤ y → y <ℤ z → x <ℤ z
-      after_it x y z p q = omega (arith, ints, p, q)
-
-      never : (s d e l : ℤ) → s <ℤ d → d ≤ℤ e → e ≤ℤ l → l ≤ℤ s → ⊥
-      never s d e l p q r t = omega (arith, ints, p, q, r, t)
+  late a b ride move step is = (
+    λ moment at. subst (λ (z : ℤ). z <ℤ step.facts.departure.0) (same_Some _ _ (sym is.is ∙ at)) is.later,
+    (ride_facts_timed feed ride step.facts most_time (sound_trip feed ride.trip sound) step.rides.is).forward,
+  )
 
   -- what is told of a late ride and so many more
   abbrev told_late : ℕ → LabelFacts → ℤ
   told_late more a = least_late bounds more a.state a.paid a.held
 
   -- no journey that goes on by a late ride and so many more costs less
-  late_above : (n : ℕ) (a : LabelFacts) (triple : Triple) (since : Moment) → n < query.rides → IsWithinWindow query a.arrival →
-      IsLateSince bounds a.state (deadline query) since → LeadsOn feed query (Some since.0) n a triple →
+  pub late_above : (n : ℕ) (a b : LabelFacts) (ride : Ride) (move : Move) (step : IsLabelStep feed query a ride move b) (triple : Triple) →
+      n < query.rides → IsWithinWindow query a.arrival → IsLateAfter bounds a.state step.facts →
+      LeadsBy (label_ways feed query) n b triple →
       told_late (n + 1) a ≤ℤ triple.price.0
-  late_above zero a triple since few within is leads =
-      let step = leads.3 in
-      let comes = late a leads.2 (leads.0, leads.1, step) since is (leads.4 since.0 refl) in
-      subst (λ (z : ℤ). told_late 1 a ≤ℤ z) (sym leads.5.1.price)
+  late_above zero a b ride move step triple few within is leads =
+      let comes = late a b ride move step is in
+      subst (λ (z : ℤ). told_late 1 a ≤ℤ z) (sym leads.1.price)
       (subst (λ (x : LabelFacts). told_late 1 a ≤ℤ price_so_far x) (sym step.next)
-      (are.late_ends 0 few a.state a.paid a.held (leg_facts feed step.facts) leads.1 step.pays comes.0 comes.1
-      (last a leads.2 leads.0 leads.1 within step leads.5.0 triple leads.5.1)))
-  late_above (suc n) a triple since few within is leads =
-      let step = leads.3 in
-      let comes = late a leads.2 (leads.0, leads.1, step) since is (leads.4 since.0 refl) in
+      (are.late_ends 0 few a.state a.paid a.held (leg_facts feed step.facts) move step.pays comes.0 comes.1
+      (last a b ride move within step leads.0 triple leads.1)))
+  late_above (suc n) a b ride move step triple few within is leads =
+      let comes = late a b ride move step is in
       below _ _ _ (on (suc n) few comes.0 comes.1)
-      (subst (λ m. told m leads.2 ≤ℤ triple.price.0) (add-one n)
-      (leads_above n leads.2 triple (omega (arith, few)) (step_within feed query a leads.2 leads.0 leads.1 sound within step) leads.5))
+      (subst (λ m. told m b ≤ℤ triple.price.0) (add-one n)
+      (leads_above n b triple (omega (arith, few)) (step_within feed query a b ride move sound within step) leads))
     where
       on : (m : ℕ) → m < query.rides →
-          ForSome (late_after bounds a.state) (λ moment. moment <ℤ (leg_facts feed leads.3.facts).departure.0) →
-          (leg_facts feed leads.3.facts).departure.0 ≤ℤ (leg_facts feed leads.3.facts).arrival.0 →
-          told_late (m + 1) a ≤ℤ told m leads.2
+          ForSome (late_after bounds a.state) (λ moment. moment <ℤ (leg_facts feed step.facts).departure.0) →
+          (leg_facts feed step.facts).departure.0 ≤ℤ (leg_facts feed step.facts).arrival.0 → told_late (m + 1) a ≤ℤ told m b
       on m lt comes forward =
-          subst (λ (x : LabelFacts). told_late (m + 1) a ≤ℤ told m x) (sym leads.3.next)
-          (are.late_on m lt a.state a.paid a.held (leg_facts feed leads.3.facts) leads.1 leads.3.pays comes forward)
-
--- so it is with what is told of a ride that departs so and more rides
-pub costs_on : (feed : FeedRows) (query : Query) (prices : LeastPrices) (sound : IsSoundFeed feed) → AreLeastPrices feed query prices →
-    (n : ℕ) (a : LabelFacts) (since : Option Moment) → n < query.rides → IsWithinWindow query a.arrival →
-    IsSince query prices.bounds a since → CostsOn feed query (since_of since) n a (least_since prices.bounds since n a)
-costs_on feed query prices sound are n a None few within is triple leads =
-    leads_above feed query prices.lasts.items prices.bounds sound are.bounds are.lasts n a triple few within
-    (leads.0, leads.1, leads.2, leads.3, leads.5)
-costs_on feed query prices sound are n a (Some since) few within is triple leads =
-    late_above feed query prices.lasts.items prices.bounds sound are.bounds are.lasts n a triple since few within (is since refl) leads
+          subst (λ (x : LabelFacts). told_late (m + 1) a ≤ℤ told m x) (sym step.next)
+          (are.late_on m lt a.state a.paid a.held (leg_facts feed step.facts) move step.pays comes forward)
 
 -- ---- no journey costs too much
 
 -- so many further rides add no more than this to what is paid
 leads_low : (feed : FeedRows) (query : Query) → IsSoundFeed feed → (n : ℕ) (a : LabelFacts) (triple : Triple) →
-    nat_abs a.held ≤ 10 ^ 12 → LeadsBy (ways feed query) n a triple → triple.price.0 ≤ℤ (a.paid +ℤ pos (n * (3 * 10 ^ 12) + 10 ^ 12))
+    nat_abs a.held ≤ 10 ^ 12 → LeadsBy (label_ways feed query) n a triple → triple.price.0 ≤ℤ (a.paid +ℤ pos (n * (3 * 10 ^ 12) + 10 ^ 12))
 leads_low feed query sound zero a triple low leads =
     let is = leads.1.price in here triple.price.0 a.paid a.held is low
   where
@@ -140,24 +121,94 @@ leads_low feed query sound (suc n) a triple low leads =
         z ≤ℤ (p +ℤ pos (suc n * (3 * 10 ^ 12) + 10 ^ 12))
     further z p m q is low le = omega (arith, ints, is, low, le)
 
--- there is no journey of so many further rides that costs so much
-pub far_none : (feed : FeedRows) (query : Query) → IsSoundFeed feed → (n : ℕ) (x : Label) (price : ℤ) (triple : Triple) → query.rides ≤ 8 →
-    x.rides ≤ query.rides → IsBounded x → far ≤ℤ price → price ≤ℤ triple.price.0 → LeadsBy (ways feed query) n (facts_of x) triple → ⊥
-far_none feed query sound n x price triple most rides bounded far_off costs leads =
-    let few : n ≤ 8 = ⊎_elim (λ none. omega (arith, none)) (λ le. omega (arith, le, most)) (leads_few feed query n (facts_of x) triple leads) in
-    over triple.price.0 price x.paid.0 x.rides n few (omega (arith, most, rides)) bounded.paid far_off costs
-    (leads_low feed query sound n (facts_of x) triple bounded.held leads)
+-- nothing costs as much as what is far to which a fare leads by no more rides than a query can allow
+never_far : (feed : FeedRows) (query : Query) → IsSoundFeed feed → (n : ℕ) (a : LabelFacts) (triple : Triple) → n ≤ most_rides →
+    a.rides ≤ most_rides → nat_abs a.paid ≤ 3 * 10 ^ 12 * a.rides → nat_abs a.held ≤ 10 ^ 12 → LeadsBy (label_ways feed query) n a triple →
+    far ≤ℤ triple.price.0 → ⊥
+never_far feed query sound n a triple few rides paid held leads costs =
+    over triple.price.0 a.paid a.rides n few rides paid costs (leads_low feed query sound n a triple held leads)
   where
-    over : (z price p : ℤ) (k m : ℕ) → m ≤ 8 → k ≤ 8 → nat_abs p ≤ 3 * 10 ^ 12 * k → far ≤ℤ price → price ≤ℤ z →
+    over : (z p : ℤ) (k m : ℕ) → m ≤ 8 → k ≤ 8 → nat_abs p ≤ 3 * 10 ^ 12 * k → far ≤ℤ z →
         z ≤ℤ (p +ℤ pos (m * (3 * 10 ^ 12) + 10 ^ 12)) → ⊥
-    over z price p k m a b c d e f = omega (arith, ints, a, b, c, d, e, f)
+    over z p k m a b c d e = omega (arith, ints, a, b, c, d, e)
 
--- what is told of some further rides
-pub costs_further : (feed : FeedRows) (query : Query) (prices : LeastPrices) → IsSoundFeed feed → AreLeastPrices feed query prices →
-    (further : ℕ) (a : LabelFacts) → (further ≡ 0 → ⊥) → further ≤ query.rides → IsWithinWindow query a.arrival →
-    CostsBy feed query further a (least_since prices.bounds None (further - 1) a)
-costs_further feed query prices sound are zero a some few within = absurd (some refl)
-costs_further feed query prices sound are (suc n) a some few within =
-    let same : n ≡ suc n - 1 = omega arith in
-    subst (λ (m : ℕ). CostsBy feed query (suc n) a (least_since prices.bounds None m a)) same
-    (λ triple leads. leads_above feed query prices.lasts.items prices.bounds sound are.bounds are.lasts n a triple (omega (arith, few)) within leads)
+-- ---- what a tariff tells
+
+module _ (of : TariffOf) (loose : Bool) (given : List Triple) (sound : IsSoundFeed of.feed) where
+  abbrev task : Task Fare Move
+  task = fare_task of loose given
+
+  -- no journey costs less than what is told of its next rides
+  pub least_told : AreLeast of.feed of.query of.bounds → (n : ℕ) (a : Facts Fare) (late : Bool) (triple : Triple) → n < of.query.rides →
+      IsWithinWindow of.query a.arrival → LeadsOn task (IsLateIf (fare_terms of) a late) n a triple →
+      least_on of.bounds late n (label_facts a) ≤ℤ triple.price.0
+  unfolding step_of
+  least_told are n a true triple few within leads =
+      let b = leads.2 in
+      late_above of.feed of.query are.lasts of.bounds sound are.bounds are.are n (label_facts a) (label_facts b) leads.0 leads.1
+      (step_of of loose given a b leads.0 leads.1 leads.3) triple few within (leads.4 refl) (leads_of of loose given n b triple leads.5)
+  least_told are n a false triple few within leads =
+      let b = leads.2 in
+      leads_above of.feed of.query are.lasts of.bounds sound are.bounds are.are n (label_facts a) triple few within
+      (leads_of of loose given (suc n) a triple (leads.0, leads.1, b, leads.3, leads.5))
+
+  -- no journey costs as much as what is far
+  pub none_far : of.query.rides ≤ most_rides → (n : ℕ) (a : Facts Fare) (late : Bool) (triple : Triple) → IsFare a.rides a.fare →
+      a.rides + n < of.query.rides → LeadsOn task (IsLateIf (fare_terms of) a late) n a triple → far ≤ℤ triple.price.0 → ⊥
+  none_far most n a late triple fare few leads costs =
+      never_far of.feed of.query sound (suc n) (label_facts a) triple (omega (arith, few, most)) (omega (arith, few, most))
+      fare.paid fare.held
+      (leads_of of loose given (suc n) a triple (leads.0, leads.1, leads.2, leads.3, leads.5)) costs
+
+-- ---- whatever is asked of a tariff that serves is asked of its own feed and query
+
+abbrev own_asked : TariffOf → Bool → List Triple → Asked TariffOf
+own_asked of loose given =
+    record { tariff = of; feed = of.feed; query = of.query; whole = of.whole; loose = loose; given = given }
+
+same_asked : (asked : Asked TariffOf) → Serves asked → own_asked asked.tariff asked.loose asked.given ≡ asked
+same_asked asked serves =
+    by asked.tariff.feed asked.feed asked.tariff.query asked.query asked.tariff.whole asked.whole serves.feed serves.query serves.whole
+  where
+    by : (f f' : FeedRows) (q q' : Query) (w w' : Bool) → f ≡ f' → q ≡ q' → w ≡ w' →
+        ◌≡◌ {A = Asked TariffOf}
+        (record { tariff = asked.tariff; feed = f; query = q; whole = w; loose = asked.loose; given = asked.given })
+        (record { tariff = asked.tariff; feed = f'; query = q'; whole = w'; loose = asked.loose; given = asked.given })
+    by f f' q q' w w' e g h = rw (e, g, h) refl
+
+pub by_own : (P : Asked TariffOf → Type 0) →
+    ((of : TariffOf) (loose : Bool) (given : List Triple) → Serves (own_asked of loose given) → P (own_asked of loose given)) →
+    (asked : Asked TariffOf) → Serves asked → P asked
+by_own P own asked serves =
+    subst P (same_asked asked serves)
+    (own asked.tariff asked.loose asked.given (subst Serves (sym (same_asked asked serves)) serves))
+
+-- no journey costs less that goes on so
+pub fare_cost_on : (asked : Asked TariffOf) → Serves asked → (late : Bool) (behind : ℕ) (a : Facts Fare) → IsFare a.rides a.fare →
+    IsWithinWindow asked.query a.arrival → a.rides + behind < asked.query.rides →
+    CostOn (task_of at_most fare_terms asked) (IsLateIf (fare_terms asked.tariff) a late) behind a
+    (Some (record { 0 = least_on asked.tariff.bounds late behind (label_facts a) }))
+fare_cost_on asked serves late behind a fare =
+    by_own (λ (asked : Asked TariffOf). IsWithinWindow asked.query a.arrival → a.rides + behind < asked.query.rides →
+    CostOn (task_of at_most fare_terms asked) (IsLateIf (fare_terms asked.tariff) a late) behind a
+    (Some (record { 0 = least_on asked.tariff.bounds late behind (label_facts a) })))
+    (λ of loose given own within few triple leads.
+    record {
+      least = record { 0 = least_on of.bounds late behind (label_facts a) };
+      is = refl;
+      below = least_told of loose given own.sound own.least behind a late triple (omega (arith, few)) within leads;
+    }) asked serves
+
+-- no journey goes on so where it would cost more than any
+pub far_never : (asked : Asked TariffOf) → Serves asked → (late : Bool) (behind : ℕ) (a : Facts Fare) → IsFare a.rides a.fare →
+    IsWithinWindow asked.query a.arrival → a.rides + behind < asked.query.rides →
+    far ≤ℤ least_on asked.tariff.bounds late behind (label_facts a) → (triple : Triple) →
+    LeadsOn (task_of at_most fare_terms asked) (IsLateIf (fare_terms asked.tariff) a late) behind a triple → ⊥
+far_never asked serves late behind a fare =
+    by_own (λ (asked : Asked TariffOf). IsWithinWindow asked.query a.arrival → a.rides + behind < asked.query.rides →
+    far ≤ℤ least_on asked.tariff.bounds late behind (label_facts a) → (triple : Triple) →
+    LeadsOn (task_of at_most fare_terms asked) (IsLateIf (fare_terms asked.tariff) a late) behind a triple → ⊥)
+    (λ of loose given own within few costs triple leads.
+    none_far of loose given own.sound own.usual.rides behind a late triple fare few leads
+    (below far (least_on of.bounds late behind (label_facts a)) triple.price.0 costs
+    (least_told of loose given own.sound own.least behind a late triple (omega (arith, few)) within leads))) asked serves

@@ -1,5 +1,5 @@
 -- What a search by rounds is told of fares.
-use Rattle.std.specs.Prelude.{◌≡◌, ℕ, ◌*◌, ◌^◌, ◌≤◌, ◌==◌, ◌&&◌, Bool, is_none, Option, Some, None, nat_abs, ℤ, pos, ◌+ℤ◌, ◌<ℤ◌, List, false, true}
+use Rattle.std.specs.Prelude.{◌≡◌, ℕ, ◌*◌, ◌^◌, ◌≤◌, ◌==◌, ◌&&◌, Bool, is_none, slice_get, Option, Some, None, nat_abs, ℤ, pos, ◌+ℤ◌, ◌<ℤ◌, List, false, true}
 use Rattle.std.specs.Option.{option_eq}
 use Rattle.feed_rows.specs.declared.journeys.Query.{Query}
 use Rattle.feed_rows.specs.declared.journeys.RideFacts.{RideFacts}
@@ -8,22 +8,29 @@ use Rattle.feed_rows.specs.declared.states.Move.{Move}
 use Rattle.feed_rows.specs.declared.fares.Triple.{Triple}
 use Rattle.feed_rows.specs.declared.journeys.Buyer.{Buyer}
 use Rattle.feed_rows.specs.Amounts.{Spent, is_no_dearer}
+use Rattle.fare_automaton.specs.Terms.{terms}
 use Rattle.fare_bounds.specs.FareBounds.{AreFareBounds, BoundLists, late_after}
+use Rattle.fare_bounds.specs.LastChanges.{AreLastChanges}
 use Rattle.fare_tariff.specs.Lasts.{AreLastMoves}
 use Rattle.feed_rows.specs.FareChoices.{chosen_leg, is_leg_choice}
 use Rattle.feed_rows.specs.FareSteps.{asked_after, is_arranged_after, leg_taken, move_after}
 use Rattle.feed_rows.specs.TransferRules.{FareLeg}
 use Rattle.plain_laws.specs.Plain.{filled_and}
 use Rattle.feed_rows.specs.FeedRows.{FeedRows}
+use Rattle.feed_rows.specs.Journeys.{Asked as OverFeed}
 use Rattle.feed_rows.specs.Legs.{leg_facts}
 use Rattle.feed_rows.specs.PartialJourneys.{LabelFacts}
 use Rattle.feed_rows.specs.SameStates.{same_parts}
 use Rattle.feed_rows.specs.SoundFeed.{IsSoundFeed}
+use Rattle.leg_kinds.specs.Kinds.{IsOfKind}
 use Rattle.plan_rides.specs.InTime.{IsUsualQuery}
 use Rattle.round_laws.specs.Futility.{least_end}
 use Rattle.round_terms.specs.Tasks.{Asked, Task}
 use Rattle.round_terms.specs.Terms.{Facts, Terms}
 use Rattle.fare_tariff.specs.declared.fare.Fare.{Fare}
+use Rattle.fare_tariff.specs.declared.legs.FareLegs.{FareLegs}
+use Rattle.fare_tariff.specs.declared.prices.LeastPrices.{LeastPrices}
+use Rattle.fare_tariff.specs.Groups.{IsGrouped}
 
 -- ---- fares
 
@@ -38,6 +45,10 @@ same_state = option_eq same_parts
 -- the one is no dearer, and in the same state
 unfoldable pub at_most : Fare → Fare → Bool
 at_most a b = is_no_dearer (spent_of a) (spent_of b) && same_state a.state b.state
+
+-- what is kept after a move that pays one ride more
+abbrev pub fare_after : Fare → Move → Fare
+fare_after fare move = record { paid = record { 0 = fare.paid.0 +ℤ move.paid.0 }; held = move.held; state = Some move.state }
 
 -- the amounts are within what so many rides can cost, and there is a state exactly where there is a ride
 pub record IsFare (rides : ℕ) (fare : Fare) : Type 0 where
@@ -81,9 +92,9 @@ pub record IsSettledFor (feed : FeedRows) (buyer : Buyer) (state : Option FareSt
       filled_and (asked_after own next) (is_arranged_after feed) ≡ false
 
 -- they are bounds by the fare rules for the query's buyer and rides, and for journeys that end with legs of these groups, as all do
-pub record AreLeast (feed : FeedRows) (query : Query) (bounds : BoundLists) : Type 0 where
+pub record AreLeast (feed : FeedRows) (query : Query) (told : BoundLists) : Type 0 where
   pub lasts : List Bool
-  pub bounds : AreFareBounds feed query.buyer query.rides lasts bounds
+  pub bounds : AreFareBounds feed query.buyer query.rides lasts told
   pub are : AreLastMoves feed query lasts
 
 -- the feed and the query, whether the search is to be whole, and what further rides cost at least
@@ -93,11 +104,15 @@ pub record TariffOf : Type 0 where
   pub whole : Bool
   pub bounds : BoundLists
 
+-- by the query over the feed, and by what is told of the least prices
+abbrev pub tariff_of : OverFeed → LeastPrices → Bool → TariffOf
+tariff_of over prices whole = record { feed = over.feed; query = over.query; whole = whole; bounds = prices.bounds }
+
 abbrev pub fare_terms : TariffOf → Terms Fare Move
 fare_terms of = record {
   begins = record { paid = record { 0 = pos 0 }; held = record { 0 = pos 0 }; state = None };
   Pays = λ a ride move. move_after of.feed of.query.buyer a.fare.state a.fare.held.0 (leg_facts of.feed ride) move ≡ Some move;
-  after = λ a ride move. record { paid = record { 0 = a.fare.paid.0 +ℤ move.paid.0 }; held = move.held; state = Some move.state };
+  after = λ a ride move. fare_after a.fare move;
   price = λ fare. fare.paid.0 +ℤ fare.held.0;
   least = λ a. least_end of.feed of.query of.whole (label_facts a);
   IsLate = λ a ride. IsLateAfter of.bounds a.fare.state ride;

@@ -1,5 +1,5 @@
 -- How little further rides cost.
-use Rattle.std.specs.Prelude.{◌≡◌, ◌⊎◌, ℕ, ◌+◌, Option, Some, None, ℤ, pos, ◌≤ℤ◌}
+use Rattle.std.specs.Prelude.{◌≡◌, ◌⊎◌, ℕ, ◌+◌, Bool, if◌then◌else◌, Option, Some, ℤ, pos, ◌≤ℤ◌}
 use Rattle.transit_base.specs.declared.moments.Moment.{Moment}
 use Rattle.feed_rows.specs.declared.journeys.Query.{Query}
 use Rattle.feed_rows.specs.declared.states.FareState.{FareState}
@@ -13,15 +13,19 @@ use Rattle.fare_tariff.specs.Lasts.{AreLastMoves}
 abbrev pub far : ℤ
 far = pos 500_000_000_000_000
 
--- the least price that is told of a ride and so many more, where there is a moment of a ride that is late
-abbrev pub least_since : BoundLists → Option Moment → ℕ → LabelFacts → ℤ
-least_since bounds None behind a = least_more bounds (behind + 1) a.state a.paid a.held
-least_since bounds (Some since) behind a = least_late bounds (behind + 1) a.state a.paid a.held
+-- the least price that is told of a ride, a late one where that is asked, and so many more
+abbrev pub least_on : BoundLists → Bool → ℕ → LabelFacts → ℤ
+least_on bounds late behind a =
+    if late
+    then least_late bounds (behind + 1) a.state a.paid a.held
+    else least_more bounds (behind + 1) a.state a.paid a.held
 
--- rides that depart later than the moment are late after the fare state, or depart later than the last one
-abbrev pub IsLateSince : BoundLists → Option FareState → ℤ → Moment → Type 0
-IsLateSince bounds state last since =
-    (moment : ℤ) → late_after bounds state ≡ Some moment → (moment ≤ℤ since.0) ⊎ (last ≤ℤ since.0)
+-- rides are late after the fare state that depart later than some moment, which is no later than this one, unless the last ones
+-- depart no later than this one
+pub record IsLateSince (bounds : BoundLists) (state : Option FareState) (last : ℤ) (since : Moment) : Type 0 where
+  pub moment : ℤ
+  pub is : late_after bounds state ≡ Some moment
+  pub past : (moment ≤ℤ since.0) ⊎ (last ≤ℤ since.0)
 
 -- they are bounds by the fare rules for the query's buyer and rides, and the groups of all legs are marked with which a journey ends
 pub record AreLeastPrices (feed : FeedRows) (query : Query) (prices : LeastPrices) : Type 0 where

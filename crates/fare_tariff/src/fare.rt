@@ -1,10 +1,12 @@
 //! What a search by rounds keeps of the fares of a partial journey.
-ghost use Rattle.std.specs.Prelude.{◌≡◌, ◌+ℤ◌};
+ghost use Rattle.std.specs.Prelude.{◌≡◌, ◌+ℤ◌, ◌<◌, ◌^◌, ◌≤◌, nat_abs};
 ghost use Rattle.feed_rows.specs.Amounts.{is_no_dearer};
-ghost use Rattle.fare_tariff.specs.FareTerms.{at_most, same_state, spent_of};
+ghost use Rattle.feed_rows.specs.Limits.{most_rides};
+ghost use Rattle.fare_laws.specs.SmallMoves.{IsSmall};
+ghost use Rattle.fare_tariff.specs.FareTerms.{IsFare, fare_after, spent_of};
 
 use crate::fare_class::FareClass;
-use feed_rows::FareState;
+use feed_rows::{FareState, Move};
 use label_order::LabelOrder;
 use round_terms::Classed;
 use transit_base::Money;
@@ -23,9 +25,24 @@ pub struct Fare {
 impl Fare {
     /// The price so far, with what is held.
     pub fn price(&self) -> i128
-        ensures { result ≡ self.now.paid.0 +ℤ self.now.held.0 }
+        ensures value { result ≡ self.now.paid.0 +ℤ self.now.held.0 }
+        ensures low { nat_abs result ≤ 2 ^ 64 }
     {
         i128::from(self.paid.0) + i128::from(self.held.0)
+    }
+
+    /// What is kept after so many rides and one more, which the move pays.
+    pub(crate) fn after(&self, rides: u8, taken: &Move) -> Fare
+        requires few { rides < most_rides }
+        requires fare { IsFare rides self.now }
+        requires small { IsSmall taken.now }
+        ensures { result ≡ fare_after self.now taken.now }
+    {
+        Fare {
+            paid: Money(self.paid.0 + taken.paid.0),
+            held: taken.held,
+            state: Some(taken.state),
+        }
     }
 }
 
@@ -35,7 +52,7 @@ impl LabelOrder for Fare {
 
     ghost at_most = { at_most };
 
-    #[tactic(auto, unfolding(crate::specs::FareTerms::at_most))]
+    #[tactic(auto, unfolding(crate::specs::FareTerms::at_most, feed_rows::specs::SameStates::same_parts))]
     fn leq(&self, other: &Self) -> bool {
         is_no_dearer(self, other) && self.state == other.state
     }

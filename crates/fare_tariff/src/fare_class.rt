@@ -1,22 +1,20 @@
-//! What labels must share for one to cover another.
+//! What fares must share for one to be as good as another.
 ghost use Rattle.std.specs.Prelude.{◌≡◌};
 ghost use Rattle.std.specs.Cmp.{partial_equiv_from_equiv};
-ghost use Rattle.round_labels.specs.Labels.{group_number, moment_number};
+ghost use Rattle.fare_tariff.specs.FareClasses.{group_number, moment_number};
 
 use feed_rows::FareState;
 use std::hash::{Hash, Hasher};
-use transit_base::{LegGroupId, Moment, StopId};
+use transit_base::{LegGroupId, Moment};
 
-/// The stop and the state of fares of labels: none covers a label of another class.
+/// A state of fares: no fare is as good as one of another state.
 #[derive(Clone, Copy)]
-pub struct LabelClass {
-    pub stop: StopId,
-    pub state: Option<FareState>,
+pub struct FareClass {
+    pub(crate) state: FareState,
 }
 
-impl PartialEq for LabelClass {
-    ghost use Rattle.round_labels.specs.Labels.{same_class};
-    ghost use Rattle.round_labels.specs.CoverLaws.{class_equivalence};
+impl PartialEq for FareClass {
+    ghost use Rattle.fare_tariff.specs.FareClasses.{same_class, class_equivalence};
 
     ghost eq = { same_class };
 
@@ -24,38 +22,35 @@ impl PartialEq for LabelClass {
 
     #[tactic(auto, unfolding(feed_rows::specs::SameStates::same_parts))]
     fn eq(&self, other: &Self) -> bool {
-        self.stop == other.stop && self.state == other.state
+        self.state == other.state
     }
 }
 
-impl Eq for LabelClass {
-    ghost use Rattle.round_labels.specs.CoverLaws.{class_equivalence};
+impl Eq for FareClass {
+    ghost use Rattle.fare_tariff.specs.FareClasses.{class_equivalence};
 
     ghost laws = { class_equivalence };
 }
 
-impl Hash for LabelClass {
-    ghost use Rattle.round_labels.specs.Labels.{class_input};
-    ghost use Rattle.round_labels.specs.CoverLaws.{class_input-same};
+impl Hash for FareClass {
+    ghost use Rattle.fare_tariff.specs.FareClasses.{class_input, class_input-same};
 
     ghost hash_input = { class_input };
 
     ghost respects_eq = { class_input-same };
 
     fn hash<H: Hasher>(&self, state: &mut H) {
-        state.write_u32(self.stop.0);
-        if let Some(fares) = &self.state {
-            state.write_u32(group_number(fares.group));
-            state.write_u32(fares.count);
-            state.write_i64(moment_number(fares.departure));
-            state.write_i64(moment_number(fares.arrival));
-        }
+        let fares = &self.state;
+        state.write_u32(group_number(fares.group));
+        state.write_u32(fares.count);
+        state.write_i64(moment_number(fares.departure));
+        state.write_i64(moment_number(fares.arrival));
     }
 }
 
 /// A number of the group, for a hash.
-#[tactic(auto, unfolding(crate::specs::Labels::group_number))]
-pub(crate) fn group_number(group: Option<LegGroupId>) -> u32
+#[tactic(auto, unfolding(crate::specs::FareClasses::group_number))]
+fn group_number(group: Option<LegGroupId>) -> u32
     ensures { result ≡ group_number group }
 {
     match group {
@@ -65,8 +60,8 @@ pub(crate) fn group_number(group: Option<LegGroupId>) -> u32
 }
 
 /// A number of the moment, for a hash.
-#[tactic(auto, unfolding(crate::specs::Labels::moment_number))]
-pub(crate) fn moment_number(moment: Option<Moment>) -> i64
+#[tactic(auto, unfolding(crate::specs::FareClasses::moment_number))]
+fn moment_number(moment: Option<Moment>) -> i64
     ensures { result ≡ moment_number moment }
 {
     match moment {

@@ -13,6 +13,7 @@ mod repeats;
 mod tariff;
 
 pub use fare::Fare;
+pub use fare_class::FareClass;
 pub use legs::{FareLegs, FareRoom};
 pub use prices::LeastPrices;
 pub use tariff::FareTariff;

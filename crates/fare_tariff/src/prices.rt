@@ -1,11 +1,17 @@
 //! How little further rides cost.
-ghost use Rattle.std.specs.Prelude.{◌≡◌, ◌⊎◌, ◌<◌, ◌≤ℤ◌, ℤ, None, Some, true};
-ghost use Rattle.fare_bounds.specs.FareBounds.{late_after};
-ghost use Rattle.round_labels.specs.Labels.{facts_of};
-ghost use Rattle.fare_tariff.specs.Prices.{IsLateSince, far, least_since};
+ghost use Rattle.std.specs.Prelude.{◌≡◌, ◌⊎◌, ◌<◌, ◌≤ℤ◌, ℤ, IfOk, IfSome, None, Some, true};
+ghost use Rattle.plan_rides.specs.Spans.{AreSpans};
+ghost use Rattle.round_terms.specs.Labels.{facts_of};
+ghost use Rattle.fare_tariff.specs.FareTerms.{label_facts};
+ghost use Rattle.fare_tariff.specs.Prices.{AreLeastPrices, IsLateSince, far, least_on};
 
+use crate::fare::Fare;
+use crate::lasts::last_groups;
 use fare_bounds::FareBounds;
-use round_labels::Label;
+use feed_rows::Move;
+use plan_rides::{Rides, Spans};
+use round_terms::Label;
+use std::alloc::{AllocError, Global};
 use transit_base::Moment;
 
 /// More than any journey costs, in minor units.
@@ -42,27 +48,41 @@ fn clamped(at: i128, first: Moment, last: Moment) -> Moment
 }
 
 impl LeastPrices {
-    /// How little a journey costs that goes on from the label by a ride and so many more; where there is a moment, by a ride that
-    /// departs later than that, and is late.
-    pub(crate) fn least_on(&self, label: &Label, behind: u8, since: Option<Moment>) -> i128
-        requires { behind < 255 }
-        ensures { result ≡ least_since self.now.bounds since behind (facts_of label.now) }
+    /// Those of the query of these rides, by the least seconds to its journeys' ends.
+    ///
+    /// # Errors
+    /// Want of memory.
+    pub fn of(alloc: Global, rides: &Rides, spans: &Spans) -> Result<LeastPrices, AllocError>
+        requires { AreSpans rides.now.feed rides.now.query spans.now }
+        ensures { IfOk result (AreLeastPrices rides.now.feed rides.now.query) }
     {
-        match since {
-            Some(_) => self
-                .bounds
-                .least_late(behind + 1, &label.state, label.paid, label.held),
-            None => self
-                .bounds
-                .least_more(behind + 1, &label.state, label.paid, label.held),
+        let query = rides.query();
+        let lasts = last_groups(alloc, rides, spans)?;
+        let feed = rides.timetable().feed();
+        let bounds = FareBounds::of(alloc, feed, query.buyer, query.rides, &lasts)?;
+        Ok(LeastPrices { bounds, lasts })
+    }
+
+    /// How little a journey costs that goes on from the label by a ride, a late one where that is asked, and so many more.
+    pub(crate) fn least_on(&self, label: &Label<Fare, Move>, behind: u8, late: bool) -> i128
+        requires { behind < 255 }
+        ensures { result ≡ least_on self.now.bounds late behind (label_facts (facts_of label.now)) }
+    {
+        let fare = &label.fare;
+        if late {
+            self.bounds
+                .least_late(behind + 1, &fare.state, fare.paid, fare.held)
+        } else {
+            self.bounds
+                .least_more(behind + 1, &fare.state, fare.paid, fare.held)
         }
     }
 
-    /// A moment of those between the two such that rides which depart later are late after the label; none where each ride is.
-    pub(crate) fn late_since(&self, label: &Label, first: Moment, last: Moment) -> Option<Moment>
-        ensures { (moment : Moment) → result ≡ Some moment → IsLateSince self.now.bounds label.now.state last.0 moment }
+    /// A moment of those between the two such that rides which depart later are late after the fare; none where each ride is.
+    pub(crate) fn late_since(&self, fare: &Fare, first: Moment, last: Moment) -> Option<Moment>
+        ensures { IfSome result (IsLateSince self.now.bounds fare.now.state last.0) }
     {
-        match self.bounds.late_after(&label.state) {
+        match self.bounds.late_after(&fare.state) {
             Some(at) => Some(clamped(at, first, last)),
             None => None,
         }
@@ -70,7 +90,7 @@ impl LeastPrices {
 }
 
 /// Whether no journey costs so much.
-pub fn is_far(price: i128) -> bool
+pub(crate) fn is_far(price: i128) -> bool
     ensures { result ≡ true → far ≤ℤ price }
 {
     FAR <= price
