@@ -7,7 +7,7 @@ ghost use Rattle.round_table.specs.Finals.{final_of};
 ghost use Rattle.round_table.specs.Labels.{labels_of};
 ghost use Rattle.round_table.specs.Tables.{table_by};
 
-use crate::table::RoundTable;
+use crate::table::{RoundTable, label_at};
 use fare_tariff::Fare;
 use feed_rows::{
     ChangeChoice, ChangeChoices, Choice, Entry, Journey, LegChoice, LegChoices, Move, Ride,
@@ -67,7 +67,7 @@ impl Part {
         requires { IsSome (traced (labels_of labels.now) rides number) }
         ensures { IfOk result (λ part. traced (labels_of labels.now) rides number ≡ Some (part_of part)) }
     {
-        let label = &labels[number as usize];
+        let label = label_at(labels, number as usize);
         if rides == 0 {
             return Ok(Part::start(alloc, label.stop));
         }

@@ -1,5 +1,6 @@
 //! The labels of a table by round and stop.
 ghost use Rattle.std.specs.Prelude.{◌≡◌, ◌<◌, ◌^◌, length, slice_get, IfOk, Some};
+ghost use Rattle.plain_laws.specs.Plain.{ids_where};
 ghost use Rattle.round_table.specs.Finals.{finals_of};
 ghost use Rattle.round_table.specs.Labels.{label_of, labels_of};
 ghost use Rattle.round_table.specs.Tables.{is_at, table_by, table_in};
@@ -46,6 +47,33 @@ fn is_at(label: &Label<Fare, Move>, rides: u8, stop: StopId) -> bool
     label.rides == rides && label.stop.0 == stop.0
 }
 
+/// The label with this number.
+pub(crate) fn label_at(labels: &[Label<Fare, Move>], number: usize) -> &Label<Fare, Move>
+    requires { number < length labels.now }
+    ensures { slice_get labels.now number ≡ Some result.now }
+{
+    &labels[number]
+}
+
+/// The numbers of the labels that have so many rides and are at the stop, ascending.
+fn numbers_at(
+    alloc: Global,
+    labels: &[Label<Fare, Move>],
+    rides: u8,
+    stop: StopId,
+) -> Result<Vec<u32>, AllocError>
+    requires { length labels.now < 2 ^ 32 }
+    ensures { IfOk result (λ numbers. numbers.items ≡ ids_where (λ i. i) (is_at rides stop) labels.now) }
+{
+    let mut numbers = Vec::new(alloc);
+    for number in 0..labels.len() {
+        if is_at(label_at(labels, number), rides, stop) {
+            numbers.push(number as u32)?;
+        }
+    }
+    Ok(numbers)
+}
+
 impl RoundTable {
     /// The table of these labels and finals.
     pub fn of(labels: Vec<Label<Fare, Move>>, finals: Vec<Final>) -> RoundTable
@@ -60,7 +88,7 @@ impl RoundTable {
         requires { number < length self.now.labels }
         ensures { slice_get (table_by self.now).labels number ≡ Some (label_of result.now) }
     {
-        &self.labels[number]
+        label_at(&self.labels, number)
     }
 
     /// All labels, by number.
@@ -84,13 +112,7 @@ impl RoundTable {
     pub fn bag(&self, alloc: Global, rides: u8, stop: StopId) -> Result<Vec<u32>, AllocError>
         ensures { IfOk result (λ numbers. numbers.items ≡ (table_by self.now).bag rides stop) }
     {
-        let mut numbers = Vec::new(alloc);
-        for number in 0..self.labels.len() {
-            if is_at(&self.labels[number], rides, stop) {
-                numbers.push(number as u32)?;
-            }
-        }
-        Ok(numbers)
+        numbers_at(alloc, &self.labels, rides, stop)
     }
 
     /// What is found, in order.
