@@ -37,7 +37,7 @@ use Rattle.round_labels.specs.Labels.{facts_of, stand_of_label}
 use Rattle.plan_rounds.specs.Searched.{Searched, IsFoundBy, Lacks, has_ahead, is_overtaken_by}
 use Rattle.plan_rounds.specs.Stores.{IsHeldBelow, StepsBy, round_search}
 use Rattle.plan_rounds.specs.declared.search.Source.{Source}
-use Rattle.fare_tariff.specs.Moves.{AreMovesOf, betters, HasBetter}
+use Rattle.plan_rounds.specs.Moves.{AreMovesOf, betters, HasBetter}
 use Rattle.round_labels.specs.CoverLaws.{same_parts-equal}
 use Rattle.round_labels.specs.Labels.{same_parts}
 use Rattle.plan_rounds.specs.Sources.{SpreadsFrom, LeadsByFirst}

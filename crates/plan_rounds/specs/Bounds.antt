@@ -17,7 +17,7 @@ use Rattle.fare_bounds.specs.FareBounds.{BoundLists}
 use Rattle.round_laws.specs.Futility.{least_end}
 use Rattle.round_laws.specs.LabelSteps.{IsLabelStep, ways}
 use Rattle.plan_rounds.specs.declared.bounds.Until.{Until}
-use Rattle.fare_tariff.specs.Prices.{IsLateSince}
+use Rattle.plan_rounds.specs.Prices.{IsLateSince}
 use Rattle.round_table.specs.declared.finals.Final.{Final}
 use Rattle.plan_rounds.specs.Searched.{IsFoundBy, Lacks, Searched, has_ahead}
 use Rattle.plan_rounds.specs.Stores.{StepsTo}

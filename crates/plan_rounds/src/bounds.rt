@@ -4,7 +4,7 @@ ghost use Rattle.feed_rows.specs.FareFloor.{fare_floor};
 ghost use Rattle.feed_rows.specs.PartialJourneys.{LabelFacts};
 ghost use Rattle.plan_rides.specs.InTime.{IsWithinWindow, deadline};
 ghost use Rattle.plan_rounds.specs.Bounds.{AreFoundBy, AreUntilsOf, CostsBy, IsFoundUntil, IsOutdoneAfter, IsSince, IsUntil, IsUntilBy, since_of};
-ghost use Rattle.fare_tariff.specs.Prices.{AreLeastPrices};
+ghost use Rattle.plan_rounds.specs.Prices.{AreLeastPrices};
 ghost use Rattle.round_laws.specs.Futility.{is_within, least_end, least_price, some_takes_back};
 ghost use Rattle.std.specs.List.{list_any};
 ghost use Rattle.feed_rows.specs.declared.fares.Triple.{Triple};

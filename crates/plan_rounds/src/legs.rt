@@ -5,7 +5,7 @@ ghost use Rattle.plan_rides.specs.Cutoffs.{AreLastDepartures, cutoff_of};
 ghost use Rattle.plan_rides.specs.Reached.{AreKept, HoldsFrom, none_kept};
 ghost use Rattle.plan_rounds.specs.Legs.{AreKinds, HasKinds};
 ghost use Rattle.ride_kinds.specs.RideKinds.{StayKnown};
-ghost use Rattle.fare_tariff.specs.Moves.{HasFares};
+ghost use Rattle.plan_rounds.specs.Moves.{HasFares};
 ghost use Rattle.plan_rounds.specs.Settled.{HasGroups, StayLabels};
 
 use crate::repeats::Repeats;

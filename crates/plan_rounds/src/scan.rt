@@ -7,7 +7,7 @@ ghost use Rattle.round_labels.specs.Labels.{stand_of_label};
 ghost use Rattle.round_table.specs.declared.finals.Final.{Final};
 ghost use Rattle.plan_rounds.specs.Bounds.{AreUntilsOf, IsFairBy, IsUntil};
 ghost use Rattle.plan_rounds.specs.Legs.{AreKinds, HasKinds};
-ghost use Rattle.fare_tariff.specs.Moves.{HasFares};
+ghost use Rattle.plan_rounds.specs.Moves.{HasFares};
 ghost use Rattle.plan_rounds.specs.Scans.{AddsLabel, AddsMarks, AreMarks, IsFairIn, IsLeftOut, IsMarked, IsRound, ServeFor, SpreadsIn, StepsAt, StepsFromPosition};
 ghost use Rattle.plan_rounds.specs.Settled.{ArePassed, AreSettled};
 ghost use Rattle.plan_rounds.specs.Sources.{IsSource, SpreadsFrom, StepsByFirst};

@@ -14,7 +14,7 @@ ghost use Rattle.fare_laws.specs.SmallMoves.{IsSmall};
 ghost use Rattle.round_labels.specs.Labels.{IsBounded, facts_of, stand_of_label};
 ghost use Rattle.plan_rounds.specs.Bounds.{IsOutdoneAfter};
 ghost use Rattle.plan_rounds.specs.Gathered.{IsGathered};
-ghost use Rattle.fare_tariff.specs.Moves.{AreMovesOf, HasFares};
+ghost use Rattle.plan_rounds.specs.Moves.{AreMovesOf, HasFares};
 ghost use Rattle.feed_rows.specs.declared.fares.Triple.{Triple};
 ghost use Rattle.round_table.specs.Finals.{AddsEnds, EndsBelow, HasEnds, is_bettered};
 ghost use Rattle.plan_rounds.specs.Searched.{Lacks, searched};
@@ -77,7 +77,7 @@ pub struct Search<'s, 'l> {
 impl<'s, 'l> Model for Search<'s, 'l> {
     ghost use Rattle.std.specs.Prelude.{◌≡◌, true};
     ghost use Rattle.fare_automaton.specs.Terms.{terms};
-    ghost use Rattle.fare_tariff.specs.Prices.{AreLeastPrices};
+    ghost use Rattle.plan_rounds.specs.Prices.{AreLeastPrices};
     ghost use Rattle.plan_rides.specs.Spans.{AreSpans, no_spans};
     ghost use Rattle.plan_rounds.specs.Searched.{IsAim, Searched, aim_of, searched};
     ghost use Rattle.round_laws.specs.Futility.{some_takes_back};

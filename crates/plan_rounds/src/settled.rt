@@ -5,7 +5,7 @@ ghost use Rattle.fare_automaton.specs.Fewest.{group_of};
 ghost use Rattle.fare_bounds.specs.LastChanges.{AreLastChanges};
 ghost use Rattle.feed_rows.specs.SoundFeed.{IsSoundFeed};
 ghost use Rattle.plan_rounds.specs.Legs.{AreKinds};
-ghost use Rattle.fare_tariff.specs.Moves.{HasFares};
+ghost use Rattle.plan_rounds.specs.Moves.{HasFares};
 ghost use Rattle.plan_rounds.specs.Settled.{AddsLabel, AreGroupsOf, HasCheaper, HasGroup, IsSettledAt, IsSettledSince, StayGroups};
 ghost use Rattle.round_labels.specs.Labels.{IsBounded};
 

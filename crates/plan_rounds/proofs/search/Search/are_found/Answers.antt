@@ -7,7 +7,7 @@ use Rattle.plan_rides.specs.Spans.{AreSpans, stands_of}
 use Rattle.plan_rounds.specs.Bounds.{CostsBy}
 use Rattle.plan_rounds.specs.Searched.{Searched, has_ahead}
 use Rattle.round_labels.specs.Labels.{facts_of}
-use Rattle.fare_tariff.proofs.PriceLaws.{far_none}
+use Rattle.plan_rounds.proofs.PriceLaws.{far_none}
 use Rattle.plan_rounds.proofs.UsefulLaws.{found_early, found_none}
 use Rattle.plan_rounds.proofs.search.Search.are_found.Goals as goal
 

@@ -8,7 +8,7 @@ use Rattle.fare_automaton.specs.Terms.{FareTerms}
 use Rattle.fare_bounds.proofs.FirstLaws.{first_more}
 use Rattle.plan_rides.specs.declared.caught.CaughtRide.{CaughtRide}
 use Rattle.plan_rounds.specs.Settled.{IsGrouped}
-use Rattle.fare_tariff.proofs.LastLaws.{first_contained}
+use Rattle.plan_rounds.proofs.LastLaws.{first_contained}
 use Rattle.plan_rounds.proofs.SettledLaws.{grouped_by, grouped_more}
 use Rattle.plan_rounds.proofs.search.Search.find_groups.Goals as goal
 

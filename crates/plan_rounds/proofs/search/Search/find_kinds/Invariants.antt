@@ -1,7 +1,7 @@
 use Rattle.std.proofs.Common.{◌≡◌, length}
 use Rattle.ride_kinds.specs.RideKinds.{StayKnown}
 use Rattle.plan_rounds.specs.Legs.{FitKinds}
-use Rattle.fare_tariff.specs.Moves.{HasFares}
+use Rattle.plan_rounds.specs.Moves.{HasFares}
 use Rattle.plan_rounds.proofs.search.Search.find_kinds.Given as goal
 
 abbrev pub invariant-loop-k : goal.invariant-loop-k

@@ -3,7 +3,7 @@ use Rattle.feed_rows.specs.Legs.{leg_facts}
 use Rattle.fare_automaton.specs.Fewest.{AreEnough}
 use Rattle.fare_automaton.specs.Terms.{FareTerms, terms}
 use Rattle.plan_rounds.specs.Searched.{Searched}
-use Rattle.fare_tariff.proofs.MoveLaws.{moves_of_starts, moves_of_steps, ride_times}
+use Rattle.plan_rounds.proofs.MoveLaws.{moves_of_starts, moves_of_steps, ride_times}
 use Rattle.plan_rounds.proofs.search.Search.find_moves.Goals as goal
 
 pub returns-in-None : goal.returns-in-None

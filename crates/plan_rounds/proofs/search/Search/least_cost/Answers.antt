@@ -1,10 +1,10 @@
 use Rattle.std.proofs.Common.{subst, sym, ◌∙◌, ◌≤ℤ◌, ℤ}
 use Rattle.std.specs.Int.{w128}
 use Rattle.std.proofs.lemmas.Int.{to_z-of_z}
-use Rattle.fare_tariff.specs.Prices.{AreLeastPrices}
+use Rattle.plan_rounds.specs.Prices.{AreLeastPrices}
 use Rattle.plan_rounds.specs.Searched.{Searched}
 use Rattle.round_labels.specs.Labels.{facts_of}
-use Rattle.fare_tariff.proofs.PriceLaws.{costs_further}
+use Rattle.plan_rounds.proofs.PriceLaws.{costs_further}
 use Rattle.plan_rounds.proofs.search.Search.least_cost.Goals as goal
 
 pub returns-else-further-eq0 : goal.returns-else-further-eq0

@@ -1,7 +1,7 @@
 use Rattle.plan_rides.specs.Cutoffs.{cutoff_of}
 use Rattle.plan_rides.specs.Reached.{AreKept}
 use Rattle.plan_rounds.specs.Legs.{HasKinds}
-use Rattle.fare_tariff.specs.Moves.{HasFares}
+use Rattle.plan_rounds.specs.Moves.{HasFares}
 use Rattle.plan_rounds.specs.Scans.{SpreadsIn, StepsAtFirst}
 use Rattle.plan_rounds.specs.Settled.{AreSettled}
 use Rattle.plan_rounds.proofs.search.Search.offer_marked.Given as goal

@@ -8,7 +8,7 @@ use Rattle.feed_rows.specs.Legs.{leg_facts}
 use Rattle.fare_laws.specs.SmallMoves.{IsSmall}
 use Rattle.plan_rounds.specs.Searched.{Lacks}
 use Rattle.plan_rounds.proofs.RideSteps.{leads_more, within_after}
-use Rattle.fare_tariff.specs.Moves.{HasBetter}
+use Rattle.plan_rounds.specs.Moves.{HasBetter}
 use Rattle.plan_rounds.proofs.FutileLaws.{leads_without, ride_overtaken, spreads_by}
 use Rattle.plan_rounds.proofs.search.Search.offer_ride.Goals as goal
 use Rattle.plan_rounds.proofs.search.Search.offer_ride.Goals.{then-not-is_bettered+in_ok-offer_move, else-not-is_bettered}

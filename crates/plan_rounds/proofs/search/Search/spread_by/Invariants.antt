@@ -1,5 +1,5 @@
 use Rattle.plan_rounds.specs.Gathered.{IsGathered}
-use Rattle.fare_tariff.specs.Moves.{HasFares}
+use Rattle.plan_rounds.specs.Moves.{HasFares}
 use Rattle.plan_rounds.proofs.search.Search.spread_by.Given as goal
 
 abbrev pub invariant-loop-count : goal.invariant-loop-count

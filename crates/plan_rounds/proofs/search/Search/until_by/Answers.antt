@@ -5,7 +5,7 @@ use Rattle.transit_base.specs.declared.moments.Moment.{Moment}
 use Rattle.plan_rides.specs.InTime.{deadline}
 use Rattle.plan_rounds.specs.Bounds.{CostsOn, since_of}
 use Rattle.round_labels.specs.Labels.{facts_of}
-use Rattle.fare_tariff.proofs.PriceLaws.{costs_on, far_none}
+use Rattle.plan_rounds.proofs.PriceLaws.{costs_on, far_none}
 use Rattle.plan_rounds.proofs.UsefulLaws.{by_found, by_none, leads_more}
 use Rattle.round_laws.specs.LabelSteps.{ways}
 use Rattle.search_laws.specs.Ways.{LeadsBy}
