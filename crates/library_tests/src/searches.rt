@@ -8,8 +8,8 @@ use pareto_front::are_same_triples;
 use plan_arrivals::arrivals;
 use plan_plain::plain_entries;
 use plan_rounds::{round_entries, rounds};
-use round_search::Final;
 use round_table::RoundTable;
+use round_terms::Final;
 use std::alloc::{AllocError, Global};
 use transit_base::StopId;
 
