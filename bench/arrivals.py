@@ -235,7 +235,7 @@ def main():
         with open(f"{scratch}/arrivals.rs", "w") as file:
             file.write(RUST)
         subprocess.run(["rustc", "-O", "-A", "warnings", "-o", f"{scratch}/arrivals", f"{scratch}/arrivals.rs"], check=True)
-        crates = "plan_arrivals round_search plan_rides feed_timetable feed_check folder_io feed_rows transit_base".split()
+        crates = "plan_arrivals round_search round_terms plan_rides feed_timetable feed_check folder_io feed_rows transit_base".split()
         proved = proved_program.build(scratch, "arrivals_bench", crates, PROGRAM)
         for rows in sizes:
             folder = f"{scratch}/{rows}"

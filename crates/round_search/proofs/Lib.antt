@@ -9,6 +9,7 @@ pub mod FinalLaws
 pub mod RoundLaws
 pub mod ScanLaws
 pub mod SettledLaws
+pub mod OfferLaws
 pub mod SpanLaws
 pub mod FoundLaws
 pub mod BoundLaws

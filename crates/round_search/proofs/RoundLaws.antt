@@ -76,6 +76,7 @@ module _ {F M : Type 0} (task : Task F M) (laws : HasLaws task) where
     searched_of sound = record {
       whole = whole;
       right = are.ended.right (All-nil (IsFinal task labels));
+      ended = λ triple ends. are.ended.all triple ends;
       all = λ n a last triple reached end strict.
           let more =
           whole_weaker (search_of task) (Lacks task finals) (MayLack (ways task) (Cuts task.terms) task.whole (IsFoundBy task finals))

@@ -45,7 +45,7 @@ use Rattle.round_search.proofs.SourceLaws.{within_more}
 use Rattle.round_terms.specs.Tasks.{HasLaws, Task}
 
 -- (what stands in a list doesn't hang on this)
-abbrev no_until : Until
+abbrev pub no_until : Until
 no_until = record { all = record { 0 = pos 0 }; since = record { 0 = pos 0 }; late = record { 0 = pos 0 } }
 
 -- ---- labels of a round

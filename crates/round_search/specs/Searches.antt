@@ -17,7 +17,7 @@ use Rattle.round_search.specs.declared.search.Found.{Found}
 use Rattle.round_search.specs.declared.search.Source.{Source}
 use Rattle.round_terms.specs.declared.finals.Final.{Final}
 use Rattle.round_search.specs.Cuts.{Cuts, IsFoundBy, Lacks}
-use Rattle.round_search.specs.Finals.{AddsEnds, EndsBelow, IsFinal, is_bettered}
+use Rattle.round_search.specs.Finals.{AddsEnds, EndsBelow, HasEnds, IsFinal, is_bettered}
 use Rattle.round_terms.specs.Labels.{covers, facts_of}
 use Rattle.round_terms.specs.Steps.{IsEnd, IsStep, stand_of_facts, start_facts, ways}
 use Rattle.round_terms.specs.Terms.{Facts, Terms, facts_after}
@@ -151,5 +151,6 @@ pub record IsSearched {F M : Type 0} (task : Task F M)
     (labels : List (Label F M)) (finals : List Final) : Type 0 where
   pub whole : AreWhole (search_of task) (Lacks task finals) task.query.rides labels
   pub right : All (IsFinal task labels) finals
+  pub ended : HasEnds task labels finals
   pub all : (n : ℕ) (a : Facts F) (last : StopId) (triple : Triple) → IsReached (ways task) n a →
       IsEnd task a last triple → task.loose ≡ false → IsFoundBy task finals triple

@@ -202,7 +202,11 @@ impl<'s, 'l, T: Tariff> Search<'s, 'l, T> {
 
     /// Whether a quick search passes over the label, since it has come to its stop as early and as cheaply, in whatever state of fares.
     /// Another one passes over none.
-    fn passes_over(&self, seen: &mut Seen, label: &Label<T::Fare, T::Move>) -> Result<bool, AllocError>
+    fn passes_over(
+        &self,
+        seen: &mut Seen,
+        label: &Label<T::Fare, T::Move>,
+    ) -> Result<bool, AllocError>
         requires fare { (T.terms self.now.tariff).IsFare label.now.rides label.now.fare }
         requires few { label.now.rides ≤ most_rides }
         ensures { IfOk result (λ passed. passed ≡ true → self.now.loose ≡ true) }

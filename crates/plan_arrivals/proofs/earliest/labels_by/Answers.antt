@@ -13,4 +13,4 @@ of-requires-clause-spans c = none_spans c.args.rides.now.feed c.args.rides.now.q
 pub returns : goal.returns
 returns c =
     subst (λ (a : Asked _). IfOk c.labels.result (λ all. IsSearched (task_of any (λ (s : NoFares). no_fares) a) all.0.items all.1)) c.of.ensures
-    c.labels.ensures
+    c.labels.ensures.searched

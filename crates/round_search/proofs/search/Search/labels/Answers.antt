@@ -4,7 +4,7 @@ use Rattle.search_laws.specs.Stores.{AreStored, Spreads}
 use Rattle.search_laws.proofs.StoreLaws.{few_more, fit_more, starts_covered, stored_more, stored_none}
 use Rattle.round_search.specs.Bags.{gathered, in_bags}
 use Rattle.round_search.specs.Finals.{AddsEnds, EndsBelow}
-use Rattle.round_search.specs.Searches.{AreEnding, IsNever, search_of, told}
+use Rattle.round_search.specs.Searches.{AreEnding, AreLast, IsNever, search_of, told}
 use Rattle.round_terms.specs.Steps.{ways}
 use Rattle.round_search.proofs.FinalLaws.{ends_none}
 use Rattle.round_search.proofs.LawfulLaws.{cover_test}
@@ -20,9 +20,9 @@ gather-requires-clause-ending g c =
     let test = cover_test task laws in
     let new = in_bags c.offer_starts.new.bags in
     let spreads =
-    subst (λ old. Spreads s IsNever [] 0 ((ways task).Starts) old new) c.in_ok-bags.ensures.none
+    subst (λ old. Spreads s IsNever [] 0 ((ways task).Starts) old new) c.in_ok-empty.ensures.none
     c.in_ok-offer_starts.ensures.spreads in
-    subst (λ ls. AreEnding task (ls ++ gathered 0 new)) (sym c.new-labels.ensures.items)
+    subst (λ ls. AreEnding task (ls ++ gathered 0 new)) (sym c.new.ensures.items)
     (ending_of task ([] ++ gathered 0 new) c.limit-limit.ensures.usual
     (few_more s test IsNever 0 [] _ [] new (stored_none s) spreads task.query.rides (omega arith))
     (fit_more s test IsNever 0 [] _ [] new (stored_none s) spreads))
@@ -30,8 +30,8 @@ gather-requires-clause-ending g c =
 pub gather-requires-clause-ended : goal.gather-requires-clause-ended
 gather-requires-clause-ended g c =
     let task = task_of g.T.Fare.LabelOrder.at_most g.T.Tariff.terms c.args.self.now in
-    subst (λ ls. AddsEnds task ls (EndsBelow task ls (length ls)) [] c.empty-front.result) (sym c.new-labels.ensures.items)
-    (subst (AddsEnds task [] (EndsBelow task [] 0) []) (sym c.empty-front.ensures)
+    subst (λ ls. AddsEnds task ls (EndsBelow task ls (length ls)) [] c.empty-2.result) (sym c.new.ensures.items)
+    (subst (AddsEnds task [] (EndsBelow task [] 0) []) (sym c.empty-2.ensures)
     (ends_none task [] (EndsBelow task [] 0) [] (λ triple below. let lt = below.1 in absurd (omega (arith, lt)))))
 
 pub spread_all-requires-clause-start : goal.spread_all-requires-clause-start
@@ -42,11 +42,11 @@ spread_all-requires-clause-start g c =
     let test = cover_test task laws in
     let new = in_bags c.offer_starts.new.bags in
     let spreads =
-    subst (λ old. Spreads s IsNever [] 0 ((ways task).Starts) old new) c.in_ok-bags.ensures.none
+    subst (λ old. Spreads s IsNever [] 0 ((ways task).Starts) old new) c.in_ok-empty.ensures.none
     c.in_ok-offer_starts.ensures.spreads in
     let all = c.in_ok-gather.ensures in
     let stored = stored_more s test IsNever 0 [] _ [] new (stored_none s) spreads all.apart in
-    let is = all.value ∙ ap (λ ls. ls ++ gathered 0 new) c.new-labels.ensures.items in
+    let is = all.value ∙ ap (λ ls. ls ++ gathered 0 new) c.new.ensures.items in
     record {
       stored = subst (λ ls. AreStored s 1 ls new) (sym is) stored;
       apart = all.apart;
@@ -55,5 +55,6 @@ spread_all-requires-clause-start g c =
           (starts_covered s test 1 _ new stored (λ b start. ⊎_elim (λ held. held) (λ never. absurd never) (spreads.all b start)));
       ended = all.ended;
       numbers = all.numbers;
-      last = last_first _ (subst (All (λ x. x.rides ≡ 0)) (sym is) (gathered_rides 0 new));
+      last = subst (λ n. AreLast 0 n c.gather.new.found.labels.items) (sym (all.begin ∙ ap length c.new.ensures.items))
+          (last_first _ (subst (All (λ x. x.rides ≡ 0)) (sym is) (gathered_rides 0 new)));
     }

@@ -16,29 +16,7 @@ use Rattle.round_terms.specs.Tasks.{HasLaws, task_of}
 use Rattle.round_search.proofs.search.Search.spread_all.Goals as goal
 
 pub loop-count-init : goal.loop-count-init
-loop-count-init g c = record { are = c.requires.start; stops = c.requires.stops }
-
-pub spread-requires-clause-stored : goal.spread-requires-clause-stored
-spread-requires-clause-stored g c =
-    let task = task_of g.T.Fare.LabelOrder.at_most g.T.Tariff.terms c.args.self.now in
-    subst (λ ls. AreStored (search_of task) (c.loop-count.count + 1) ls (in_bags c.loop-count.bags)) (sym c.deref.ensures.value)
-    c.loop-count.invariant.are.stored
-
-pub spread-requires-clause-last : goal.spread-requires-clause-last
-spread-requires-clause-last g c =
-    subst (AreLast c.loop-count.count c.loop-count.begin) (sym c.deref.ensures.value) c.loop-count.invariant.are.last
-
-pub spread-requires-clause-numbers : goal.spread-requires-clause-numbers
-spread-requires-clause-numbers g c =
-    subst (λ ls. length ls < 2 ^ 32) (sym c.deref.ensures.value) c.loop-count.invariant.are.numbers
-
-pub spread-requires-clause-ended : goal.spread-requires-clause-ended
-spread-requires-clause-ended g c =
-    let task = task_of g.T.Fare.LabelOrder.at_most g.T.Tariff.terms c.args.self.now in
-    subst (λ ls. HasEnds task ls c.loop-count.front) (sym c.deref.ensures.value) (λ triple ends. c.loop-count.invariant.are.ended.all triple ends)
-
-pub spread-requires-clause-stops : goal.spread-requires-clause-stops
-spread-requires-clause-stops g c = c.loop-count.invariant.stops
+loop-count-init g c = record { are = c.requires.start; stops = c.requires.stops; knows = c.requires.knows }
 
 pub gather-requires-clause-ending : goal.gather-requires-clause-ending
 gather-requires-clause-ending g c =
@@ -48,16 +26,14 @@ gather-requires-clause-ending g c =
     let test = cover_test task laws in
     let was = c.loop-count.invariant.are in
     let count = c.loop-count.count in
-    let labels = c.loop-count.labels.items in
-    let front = c.loop-count.front in
-    let new = in_bags c.spread.new.bags in
-    let spreads =
-    subst (λ ls. Spreads s (Lacks task front) ls (count + 1) (StepsFrom s ls count) (in_bags c.loop-count.bags) new) c.deref.ensures.value
-    c.in_ok-spread.ensures.spreads in
+    let labels = c.loop-count.found.labels.items in
+    let front = c.loop-count.found.front in
+    let new = in_bags c.spread.new.store.bags in
+    let spreads = c.in_ok-spread.ensures.spreads in
     ending_of task (labels ++ gathered (count + 1) new) c.limit-count-end.ensures.usual
-    (few_more s test (Lacks task front) (count + 1) labels _ (in_bags c.loop-count.bags) new was.stored spreads task.query.rides
+    (few_more s test (Lacks task front) (count + 1) labels _ (in_bags c.loop-count.store.bags) new was.stored spreads task.query.rides
     (omega (arith, c.loop-count-test.true, c.limit-count-end.ensures.is)))
-    (fit_more s test (Lacks task front) (count + 1) labels _ (in_bags c.loop-count.bags) new was.stored spreads)
+    (fit_more s test (Lacks task front) (count + 1) labels _ (in_bags c.loop-count.store.bags) new was.stored spreads)
 
 pub gather-requires-clause-ended : goal.gather-requires-clause-ended
 gather-requires-clause-ended g c = c.loop-count.invariant.are.ended
@@ -70,39 +46,42 @@ loop-count-preserved g c =
     let test = cover_test task laws in
     let was = c.loop-count.invariant.are in
     let count = c.loop-count.count in
-    let labels = c.loop-count.labels.items in
-    let front = c.loop-count.front in
-    let new = in_bags c.spread.new.bags in
-    let spreads =
-    subst (λ ls. Spreads s (Lacks task front) ls (count + 1) (StepsFrom s ls count) (in_bags c.loop-count.bags) new) c.deref.ensures.value
-    c.in_ok-spread.ensures.spreads in
-    let old = in_bags c.loop-count.bags in
+    let labels = c.loop-count.found.labels.items in
+    let front = c.loop-count.found.front in
+    let new = in_bags c.spread.new.store.bags in
+    let spreads = c.in_ok-spread.ensures.spreads in
+    let old = in_bags c.loop-count.store.bags in
     let all = c.in_ok-gather.ensures in
-    let same : length labels ≡ c.len-end.result = omega (arith, c.len-end.ensures, c.loop-count.labels.ok.0) in
     record {
       are = record {
         stored = subst (λ ls. AreStored s (count + 1 + 1) ls new) (sym all.value)
             (stored_more s test (Lacks task front) (count + 1) labels _ old new was.stored spreads all.apart);
         apart = all.apart;
-        closed = closed_weaker s (Lacks task front) (Lacks task c.gather.new.front) (count + 1) c.gather.new.labels.items
-            (lacks_more task laws front c.gather.new.front (bettered_still task laws labels (gathered (count + 1) new) front c.gather.new.front was.ended
-            (subst (λ ls. AddsEnds task ls (EndsBelow task ls (length ls)) [] c.gather.new.front) all.value all.ended)))
+        closed = closed_weaker s (Lacks task front) (Lacks task c.gather.new.found.front) (count + 1) c.gather.new.found.labels.items
+            (lacks_more task laws front c.gather.new.found.front (bettered_still task laws labels (gathered (count + 1) new) front c.gather.new.found.front was.ended
+            (subst (λ ls. AddsEnds task ls (EndsBelow task ls (length ls)) [] c.gather.new.found.front) all.value all.ended)))
             (subst (AreClosedTo s (Lacks task front) (count + 1)) (sym all.value)
             (closed_more s test (Lacks task front) (count + 1) labels _ old new was.stored spreads count refl was.closed (λ b h. h)));
         starts = subst (CoversStarts (ways task) (told task)) (sym all.value) (starts_more s labels _ was.starts);
         ended = all.ended;
         numbers = all.numbers;
-        last = subst (AreLast (count + 1) c.len-end.result) (sym all.value)
-            (subst (λ n. AreLast (count + 1) n (labels ++ gathered (count + 1) new)) same
-            (last_more count c.loop-count.begin labels (gathered (count + 1) new) was.last (gathered_rides (count + 1) new)));
+        last = subst (AreLast (count + 1) c.gather.new.found.begin) (sym all.value)
+            (subst (λ n. AreLast (count + 1) n (labels ++ gathered (count + 1) new)) (sym all.begin)
+            (last_more count c.loop-count.found.begin labels (gathered (count + 1) new) was.last (gathered_rides (count + 1) new)));
       };
       stops = c.in_ok-spread.ensures.stops ∙ c.loop-count.invariant.stops;
+      knows = c.in_ok-spread.ensures.knows;
     }
 
-pub returns : goal.returns
-returns g c =
+pub returns-clause-knows : goal.returns-clause-knows
+returns-clause-knows g c = c.loop-count.invariant.knows
+
+pub returns-clause-searched : goal.returns-clause-searched
+returns-clause-searched g c =
     let task = task_of g.T.Fare.LabelOrder.at_most g.T.Tariff.terms c.args.self.now in
     let laws : HasLaws task = c.limit-limit.ensures.laws in
-    searched_of task laws c.loop-count.begin c.loop-count.labels.items (in_bags c.loop-count.bags) c.loop-count.front
-    (subst (λ n. IsGathered task n c.loop-count.begin c.loop-count.labels.items (in_bags c.loop-count.bags) c.loop-count.front)
-    (omega (arith, c.loop-count-test.false, c.loop-count.auto.count-end, c.limit-count-end.ensures.is)) c.loop-count.invariant.are) c.feed-feed.ensures.sound
+    let bags = in_bags c.loop-count.store.bags in
+    searched_of task laws c.loop-count.found bags
+    (subst (λ n. IsGathered task n c.loop-count.found bags)
+    (omega (arith, c.loop-count-test.false, c.loop-count.auto.count-end, c.limit-count-end.ensures.is)) c.loop-count.invariant.are)
+    c.feed-feed.ensures.sound
