@@ -1,4 +1,4 @@
-pub mod FinalLaws
 pub mod WholeLaws
+pub mod FinalLaws
 pub mod SearchedLaws
 pub mod PlannedLaws

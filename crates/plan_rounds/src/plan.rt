@@ -1,5 +1,5 @@
 //! The exact answer to a query, by rounds.
-ghost use Rattle.std.specs.Prelude.{◌≡◌, [], All, IfOk, OnOk, map, true};
+ghost use Rattle.std.specs.Prelude.{◌≡◌, [], All, IfOk, OnOk, map, false, true};
 ghost use Rattle.fare_automaton.specs.Terms.{terms};
 ghost use Rattle.feed_rows.specs.FeedRows.{FeedRows};
 ghost use Rattle.feed_rows.specs.declared.fares.Entry.{Entry};
@@ -7,6 +7,7 @@ ghost use Rattle.feed_rows.specs.declared.journeys.Query.{Query};
 ghost use Rattle.feed_rows.specs.JourneyEntries.{CoversOffers, IsEntry, IsExactAnswer};
 ghost use Rattle.plan_rides.specs.InTime.{IsUsualQuery};
 ghost use Rattle.feed_rows.specs.ClosedTable.{IsClosedTable};
+ghost use Rattle.feed_rows.specs.SoundFeed.{IsSoundFeed};
 ghost use Rattle.feed_rows.specs.SoundTable.{IsSoundTable};
 ghost use Rattle.feed_rows.specs.Journeys.{asked};
 ghost use Rattle.plan_rides.specs.Scopes.{IsInScope};
@@ -127,6 +128,22 @@ fn is_small(feed: &Feed) -> bool {
 }
 
 impl<'l> Plan<'l> {
+    /// The feed.
+    fn feed(&self) -> &'l Feed
+        ensures value { result.now ≡ self.now.asked.feed }
+        ensures sound { IsSoundFeed self.now.asked.feed }
+    {
+        self.automaton.feed()
+    }
+
+    /// The query.
+    fn query(&self) -> &'l Query
+        ensures is { result.now ≡ self.now.asked.query }
+        ensures usual { IsUsualQuery self.now.asked.query }
+    {
+        self.rides.query()
+    }
+
     /// The table of the search with this aim.
     ///
     /// # Errors
@@ -142,10 +159,15 @@ impl<'l> Plan<'l> {
         ensures knows { OnOk result (Knows self.now.asked.feed self.now.asked.query.buyer room.new.kept.legs) }
         ensures is { IfOk result (λ table. IsTableOf (searched self.now.asked (aim_of aim.entry)) (table_by table)) }
     {
+        let _feed = self.feed();
+        let _query = self.query();
         let quick = aim.loose && aim.horizon.is_none();
         let tariff = FareTariff::of(self.rides, self.automaton, self.prices, self.whole, quick);
         let search = Search::of(self.alloc, self.rides, &tariff, self.spans, aim);
         let (labels, front) = search.labels(room)?;
+        if labels.len() >= 1 << 32 {
+            return Err(AllocError);
+        }
         Ok(RoundTable::of(labels, front.into_items()))
     }
 
@@ -194,8 +216,8 @@ impl<'l> Plan<'l> {
         }
         let first = self.found_soon(&[], None, room)?;
         let given = triples_of(self.alloc, &first)?;
-        let horizon = horizon_of(self.rides.query().departure, &given);
-        if horizon.is_none() || is_small(self.automaton.feed()) {
+        let horizon = horizon_of(self.query().departure, &given);
+        if horizon.is_none() || is_small(self.feed()) {
             return Ok(first);
         }
         let second = self.found_soon(&given, horizon, room)?;
@@ -231,10 +253,10 @@ impl<'l> Plan<'l> {
 ///
 /// # Errors
 /// Want of memory; so counts that there would be 2^32 labels or more.
-fn planned_at(
+fn planned_at<'l>(
     alloc: Global,
-    rides: &Rides,
-    automaton: &Automaton,
+    rides: &'l Rides<'l>,
+    automaton: &'l Automaton<'l>,
     whole: bool,
 ) -> Result<(RoundTable, Vec<Entry>), AllocError>
     requires { automaton.now ≡ terms rides.now.feed rides.now.query.buyer }
