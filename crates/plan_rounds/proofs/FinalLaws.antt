@@ -1,6 +1,6 @@
 -- The best that labels end in are the finals of their table.
-use Rattle.std.proofs.Common.{◌≡◌, sym, ◌∙◌, ap, subst, arith, ◌+◌, ◌<◌, Bool, true, false, List, [], ◌∷◌, length, get_or}
-use Rattle.std.specs.Prelude.{All, AllPairs, Contains, IsTrue, Some, option_map, slice_get}
+use Rattle.std.proofs.Common.{◌≡◌, sym, ◌∙◌, ap, subst, arith, ◌<◌, Bool, false, List, [], ◌∷◌, length, get_or}
+use Rattle.std.specs.Prelude.{All, AllPairs, Contains, IsTrue, option_map}
 use Rattle.std.proofs.lemmas.List.{get_or-map, length-map}
 use Rattle.std.proofs.lemmas.List.Elements.{All-map, All-weaker}
 use Rattle.std.proofs.lemmas.Option.{slice_get-map, slice_get_within}

@@ -1,5 +1,5 @@
 -- A search by the fares of a query makes the table that is asked for.
-use Rattle.std.proofs.Common.{◌≡◌, refl, subst, ⊎_elim, Bool, true, false, List, [], ◌∷◌}
+use Rattle.std.proofs.Common.{◌≡◌, subst, ⊎_elim, Bool, true, false, List, [], ◌∷◌}
 use Rattle.feed_rows.specs.declared.fares.Triple.{Triple}
 use Rattle.feed_rows.specs.declared.states.Move.{Move}
 use Rattle.feed_rows.specs.PartialJourneys.{LabelFacts}

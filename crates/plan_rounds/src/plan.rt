@@ -202,10 +202,7 @@ impl<'l> Plan<'l> {
     ///
     /// # Errors
     /// Want of memory; so counts that there would be 2^32 labels or more.
-    fn known(
-        &self,
-        room: &mut Room<Move, FareLegs<'l>, FareRoom>,
-    ) -> Result<Vec<Entry>, AllocError>
+    fn known(&self, room: &mut Room<Move, FareLegs<'l>, FareRoom>) -> Result<Vec<Entry>, AllocError>
         requires { Knows self.now.asked.feed self.now.asked.query.buyer room.old.kept.legs }
         ensures knows { OnOk result (Knows self.now.asked.feed self.now.asked.query.buyer room.new.kept.legs) }
         ensures are { IfOk result (λ entries. All (IsEntry self.now.asked.feed self.now.asked.query) entries.items) }
@@ -266,7 +263,13 @@ fn planned_at<'l>(
     let calendar = rides.timetable().calendar();
     let spans = spans_of(alloc, rides, whole)?;
     let prices = LeastPrices::of(alloc, rides, &spans)?;
-    match Timeframes::between(alloc, automaton.feed(), calendar, query.departure, deadline(query)) {
+    match Timeframes::between(
+        alloc,
+        automaton.feed(),
+        calendar,
+        query.departure,
+        deadline(query),
+    ) {
         Ok(timeframes) => {
             let known = LegKinds::of(alloc, automaton, &timeframes)?;
             let mut room = Room::of(alloc, FareLegs::of(alloc, known), FareRoom::none(alloc));
