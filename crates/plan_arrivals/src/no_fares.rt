@@ -101,12 +101,7 @@ impl Tariff for NoFares {
         Ok(())
     }
 
-    fn after(
-        &self,
-        _label: &Label<NoFare, NoMove>,
-        _ride: &CaughtRide,
-        _taken: &NoMove,
-    ) -> NoFare {
+    fn after(&self, _label: &Label<NoFare, NoMove>, _ride: &CaughtRide, _taken: &NoMove) -> NoFare {
         NoFare
     }
 

@@ -1,15 +1,13 @@
 -- What cuts facts off cuts off all that they lead to, and what ends of labels better is bettered by ends of more.
-use Rattle.std.proofs.Common.{◌≡◌, sym, ◌∙◌, subst, ℕ, zero, suc, Bool, true, List, [], ◌++◌, length, arith, ℤ, pos, ◌+ℤ◌, ◌≤ℤ◌}
+use Rattle.std.proofs.Common.{◌≡◌, sym, ◌∙◌, subst, ℕ, zero, suc, true, List, [], ◌++◌, length, arith, ℤ, pos, ◌+ℤ◌, ◌≤ℤ◌}
 use Rattle.std.specs.Prelude.{Option, Some, None, option_map, int_le}
 use Rattle.std.proofs.lemmas.Int.{ints}
 use Rattle.std.proofs.lemmas.List.Elements.{All-contains, All-nil}
 use Rattle.std.proofs.lemmas.Option.{same_Some, none-some, slice_get_within}
 use Rattle.transit_base.specs.declared.numbers.StopId.{StopId}
 use Rattle.feed_rows.specs.declared.fares.Triple.{Triple}
-use Rattle.feed_rows.specs.declared.journeys.Query.{Query}
 use Rattle.feed_rows.specs.declared.journeys.Ride.{Ride}
 use Rattle.feed_rows.specs.declared.journeys.RideFacts.{RideFacts}
-use Rattle.feed_rows.specs.FeedRows.{FeedRows}
 use Rattle.feed_rows.specs.JourneyStands.{way_to, way_out, end_arrival}
 use Rattle.transit_base.specs.Limits.{most_time}
 use Rattle.feed_rows.specs.ParetoTriples.{at_most as is_no_worse}
@@ -17,7 +15,6 @@ use Rattle.feed_rows.specs.SoundFeed.{IsSoundFeed}
 use Rattle.feed_laws.proofs.ParetoLaws.{at_most-trans}
 use Rattle.feed_laws.proofs.RideLaws.{ride_facts_timed}
 use Rattle.feed_laws.proofs.SoundTrips.{sound_trip}
-use Rattle.label_order.specs.Labels.{OrderLaws}
 use Rattle.plain_laws.proofs.Laws.{filled_and-true, int_le-true, list_any_tells, slice_get-append_left}
 use Rattle.search_laws.specs.Cuts.{AreCuts}
 use Rattle.search_laws.specs.Ways.{LeadsBy}

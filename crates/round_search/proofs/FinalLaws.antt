@@ -8,8 +8,6 @@ use Rattle.std.proofs.lemmas.Option.{same_Some, none-some, slice_get_within}
 use Rattle.transit_base.specs.declared.moments.Moment.{Moment}
 use Rattle.transit_base.specs.declared.numbers.StopId.{StopId}
 use Rattle.feed_rows.specs.declared.fares.Triple.{Triple}
-use Rattle.feed_rows.specs.declared.journeys.Query.{Query}
-use Rattle.feed_rows.specs.FeedRows.{FeedRows}
 use Rattle.feed_rows.specs.Journeys.{stands_for}
 use Rattle.feed_rows.specs.JourneyStands.{end_arrival}
 use Rattle.feed_rows.specs.ParetoTriples.{at_most as is_no_worse}
@@ -28,7 +26,6 @@ use Rattle.round_search.specs.Finals.{AddsEnds, EndsAmong, EndsBelow, EndsIn, Is
 use Rattle.round_terms.specs.Labels.{facts_of}
 use Rattle.round_search.specs.Searches.{AreEnding, IsEnding, IsFit}
 use Rattle.round_terms.specs.Steps.{IsEnd, stand_of_facts}
-use Rattle.round_terms.specs.Terms.{Terms}
 use Rattle.round_search.proofs.LawfulLaws.{parts_below}
 use Rattle.round_terms.specs.Tasks.{Task}
 

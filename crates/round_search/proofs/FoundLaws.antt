@@ -1,5 +1,5 @@
 -- What is found, by finals or by triples that are given; and what a search may lack for it.
-use Rattle.std.proofs.Common.{◌≡◌, refl, sym, subst, ℕ, Bool, true, false, ◌||◌, ◌⊎◌, inl, inr, List, [], ◌∷◌, length, ◌+◌, arith, ℤ, ◌≤◌, ◌≤ℤ◌}
+use Rattle.std.proofs.Common.{◌≡◌, refl, sym, subst, ℕ, Bool, true, false, ◌||◌, inl, inr, List, [], ◌∷◌, ◌+◌, arith, ℤ, ◌≤◌, ◌≤ℤ◌}
 use Rattle.std.specs.Prelude.{Contains, nat_le}
 use Rattle.std.specs.List.{list_any}
 use Rattle.std.proofs.lemmas.Bool.{and_parts, both_ways}

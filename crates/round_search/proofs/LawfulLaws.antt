@@ -8,20 +8,17 @@ use Rattle.std.proofs.lemmas.Int.{ints}
 use Rattle.std.proofs.lemmas.Option.{same_Some, none-some}
 use Rattle.transit_base.specs.declared.numbers.StopId.{StopId}
 use Rattle.feed_rows.specs.declared.fares.Triple.{Triple}
-use Rattle.feed_rows.specs.declared.journeys.Query.{Query}
 use Rattle.feed_rows.specs.declared.journeys.Ride.{Ride}
 use Rattle.feed_rows.specs.declared.journeys.RideFacts.{RideFacts}
-use Rattle.feed_rows.specs.FeedRows.{FeedRows}
 use Rattle.feed_rows.specs.Journeys.{is_caught}
 use Rattle.feed_rows.specs.JourneyStands.{Stand, way_to, way_out, end_arrival}
 use Rattle.feed_rows.specs.ParetoTriples.{at_most as is_no_worse}
-use Rattle.label_order.specs.Labels.{OrderLaws}
 use Rattle.search_laws.specs.Stores.{IsCoverTest}
 use Rattle.search_laws.specs.Ways.{AreLawful, EndsNoWorse, IsFollowed}
 use Rattle.round_terms.specs.CoverLaws.{cover_laws, covers-tells}
 use Rattle.round_search.specs.Searches.{search_of}
 use Rattle.round_terms.specs.Steps.{IsCaughtFrom, IsEnd, IsStep, stand_of_facts, ways}
-use Rattle.round_terms.specs.Terms.{Covers, Facts, IsLawful, Terms, facts_after}
+use Rattle.round_terms.specs.Terms.{Covers, Facts, facts_after}
 use Rattle.round_terms.specs.Tasks.{HasLaws, Task}
 
 no_later : (x y z : ℤ) → x ≤ℤ y → y ≤ℤ z → x ≤ℤ z

@@ -1,5 +1,5 @@
 -- How a round goes on from the positions that its labels reach, and a label from one of them.
-use Rattle.std.proofs.Common.{◌≡◌, refl, sym, ◌∙◌, ap, subst, ℕ, ◌+◌, ◌-◌, ◌<◌, ◌≤◌, ◌^◌, ◌⊎◌, inl, inr, ⊎_elim, true, List, [], length, arith, ℤ}
+use Rattle.std.proofs.Common.{◌≡◌, refl, sym, ◌∙◌, ap, subst, ℕ, ◌+◌, ◌-◌, ◌<◌, ◌≤◌, ◌^◌, ◌⊎◌, inl, inr, ⊎_elim, true, List, [], length, arith}
 use Rattle.std.specs.Prelude.{All, Contains, IfSome, Option, Some, int_le, slice_get}
 use Rattle.std.proofs.lemmas.Option.{same_Some, slice_get_within}
 use Rattle.transit_base.specs.declared.moments.Moment.{Moment}

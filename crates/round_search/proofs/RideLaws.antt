@@ -1,5 +1,5 @@
 -- The rides that are caught from a label, and the labels that they lead to.
-use Rattle.std.proofs.Common.{◌≡◌, refl, sym, ◌∙◌, ap, subst, ℕ, ◌+◌, ◌≤◌, ◌⊎◌, inl, inr, ⊎_elim, true, Bool, List, [], length, arith}
+use Rattle.std.proofs.Common.{◌≡◌, refl, sym, ◌∙◌, ap, subst, ℕ, ◌+◌, ◌≤◌, ◌⊎◌, inl, inr, ⊎_elim, true, List, [], length, arith}
 use Rattle.std.specs.Prelude.{Contains, IsTrue, None, Some, slice_get}
 use Rattle.std.proofs.lemmas.Bool.{cases_lt}
 use Rattle.std.proofs.lemmas.Int.{ints}
@@ -7,21 +7,17 @@ use Rattle.std.proofs.lemmas.List.Elements.{All-contains}
 use Rattle.std.proofs.lemmas.Option.{same_Some, slice_get_within}
 use Rattle.transit_base.specs.declared.moments.Moment.{Moment}
 use Rattle.transit_base.specs.declared.numbers.StopId.{StopId}
-use Rattle.feed_rows.specs.declared.journeys.Query.{Query}
-use Rattle.feed_rows.specs.declared.journeys.Ride.{Ride}
 use Rattle.feed_rows.specs.declared.journeys.RideFacts.{RideFacts}
-use Rattle.feed_rows.specs.FeedRows.{FeedRows}
 use Rattle.feed_rows.specs.Journeys.{stands_for, is_caught}
-use Rattle.feed_rows.specs.JourneyStands.{next_stand, stand_at_end, way_to}
+use Rattle.feed_rows.specs.JourneyStands.{stand_at_end, way_to}
 use Rattle.feed_rows.specs.SoundFeed.{IsSoundFeed}
 use Rattle.feed_rows.specs.StopLinks.{stop_set}
 use Rattle.plain_laws.proofs.Laws.{le-int_le, slice_get-Contains}
-use Rattle.plan_rides.specs.InTime.{IsRight, next_in_time}
+use Rattle.plan_rides.specs.InTime.{IsRight}
 use Rattle.plan_rides.specs.declared.caught.CaughtRide.{CaughtRide}
 use Rattle.plan_rides.proofs.CaughtLaws.{caught_ride, caught_within}
 use Rattle.plan_rides.proofs.DepartureLaws.{ride_end}
 use Rattle.plan_rides.proofs.MarkLaws.{member_of_stands_for}
-use Rattle.label_order.specs.Labels.{OrderLaws}
 use Rattle.search_laws.specs.Stores.{IsFresh, IsHeldBelow, IsUncut}
 use Rattle.round_terms.specs.declared.finals.Final.{Final}
 use Rattle.round_terms.specs.declared.label.Label.{Label}
@@ -31,7 +27,7 @@ use Rattle.round_terms.specs.Labels.{facts_of}
 use Rattle.round_search.specs.Searches.{IsFit, IsSource, IsStartAmong, LeadsByFirst, SpreadsFrom, StepsBy, StepsByFirst, search_of}
 use Rattle.round_terms.specs.Steps.{IsCaughtFrom, IsStep, stand_of_facts, start_facts, ways}
 use Rattle.round_terms.specs.Tasks.{HasLaws, Task}
-use Rattle.round_terms.specs.Terms.{AreEnough, Covers, Facts, IsLawful, Terms, facts_after}
+use Rattle.round_terms.specs.Terms.{AreEnough, Covers, Facts, facts_after}
 use Rattle.round_search.proofs.FoundLaws.{lacks_below}
 use Rattle.round_search.proofs.LawfulLaws.{covers-trans}
 use Rattle.plan_rides.proofs.StopLaws.{stands_inside}

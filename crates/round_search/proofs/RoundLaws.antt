@@ -1,16 +1,12 @@
 -- What a search holds after each round, and after all.
-use Rattle.std.proofs.Common.{◌≡◌, ℕ, ◌+◌, ◌≤◌, Bool, true, List, inl, arith}
+use Rattle.std.proofs.Common.{◌≡◌, ℕ, ◌+◌, ◌≤◌, List, inl, arith}
 use Rattle.std.specs.Prelude.{All, Contains, ◌==◌}
 use Rattle.std.proofs.lemmas.Bool.{eqb-true}
 use Rattle.std.proofs.lemmas.List.Elements.{All-nil}
 use Rattle.std.proofs.lemmas.Option.{slice_get_within}
 use Rattle.transit_base.specs.declared.numbers.StopId.{StopId}
 use Rattle.feed_rows.specs.declared.fares.Triple.{Triple}
-use Rattle.feed_rows.specs.declared.journeys.Query.{Query}
-use Rattle.feed_rows.specs.FeedRows.{FeedRows}
 use Rattle.feed_rows.specs.SoundFeed.{IsSoundFeed}
-use Rattle.feed_laws.proofs.ParetoLaws.{at_most-refl}
-use Rattle.label_order.specs.Labels.{OrderLaws}
 use Rattle.plain_laws.proofs.Laws.{All-from, All-slice_get, Contains-filter_passes, slice_get-Contains}
 use Rattle.plan_rides.specs.InTime.{IsUsualQuery}
 use Rattle.search_laws.specs.Cuts.{MayLack}
@@ -26,10 +22,8 @@ use Rattle.round_search.specs.Finals.{IsFinal, is_bettered}
 use Rattle.round_terms.specs.Labels.{facts_of}
 use Rattle.round_search.specs.Searches.{AreEnding, AreLast, IsFit, IsGathered, IsSearched, search_of, told}
 use Rattle.round_terms.specs.Steps.{IsEnd, ways}
-use Rattle.round_terms.specs.Terms.{IsLawful, Terms}
 use Rattle.round_search.proofs.CutLaws.{cuts}
 use Rattle.round_search.proofs.FoundLaws.{found_up}
-use Rattle.round_search.proofs.FinalLaws.{bettered_up}
 use Rattle.round_search.proofs.LawfulLaws.{cover_test, ways_lawful}
 use Rattle.round_terms.specs.Tasks.{HasLaws, Task}
 

@@ -6,11 +6,8 @@ use Rattle.std.proofs.lemmas.Int.{ints}
 use Rattle.std.proofs.lemmas.List.Sorted.{Contains-permutation, IsPermutation-sym}
 use Rattle.std.specs.Vec.{vec_len}
 use Rattle.std.proofs.lemmas.Option.{same_Some, slice_get-get_or, slice_get_read, slice_get_within}
-use Rattle.feed_rows.specs.declared.journeys.Query.{Query}
 use Rattle.feed_rows.specs.declared.journeys.Ride.{Ride}
-use Rattle.feed_rows.specs.FeedRows.{FeedRows}
 use Rattle.feed_rows.specs.JourneyStands.{Stand, stand_at_end}
-use Rattle.label_order.specs.Labels.{OrderLaws}
 use Rattle.std.proofs.lemmas.List.{length_push}
 use Rattle.plain_laws.proofs.Laws.{Contains-slice_get, int_le-true, slice_get-Contains, slice_get-push_before, slice_get-push_last}
 use Rattle.plan_rides.specs.Cutoffs.{AreLastDepartures, CutoffOf, cutoff_of, is_early}
@@ -31,12 +28,12 @@ use Rattle.feed_rows.specs.declared.journeys.RideFacts.{RideFacts}
 use Rattle.round_search.specs.Bounds.{IsAnyRide, IsFair}
 use Rattle.round_search.specs.Cuts.{Lacks, is_cut}
 use Rattle.round_terms.specs.Labels.{facts_of}
-use Rattle.round_search.specs.Offers.{AreLimits, IsBehind, IsLeftOut, IsServed, ServeFor}
+use Rattle.round_search.specs.Offers.{AreLimits, IsBehind, IsLeftOut}
 use Rattle.round_search.specs.Scans.{AddsLabel, AddsMarks, AreMarks, AreMarksTo, AreReached, AreUntilsIn, HaveUntils, IsMarked, IsOrigin, IsRound, StepsAmong, StepsAt, StepsAtFirst, StepsFromPosition}
 use Rattle.round_search.specs.Settled.{ArePassed, IsDone}
 use Rattle.round_search.specs.Searches.{IsSource, StepsBy, StepsByFirst, StepsTo}
 use Rattle.round_terms.specs.Steps.{IsStep, stand_of_facts}
-use Rattle.round_terms.specs.Terms.{Facts, IsLawful, Terms}
+use Rattle.round_terms.specs.Terms.{Facts}
 use Rattle.round_search.proofs.BoundLaws.{untils_cut}
 use Rattle.round_search.proofs.FoundLaws.{cut_lacks, lacks_after, step_cut}
 use Rattle.round_search.proofs.RideLaws.{rides_more}

@@ -1,6 +1,6 @@
 -- Behind a label rides needn't be tried that are settled after it, and after another that is as cheap, from which they were tried.
-use Rattle.std.proofs.Common.{◌≡◌, refl, sym, ◌∙◌, ap, subst, ℕ, ◌+◌, ◌<◌, ◌⊎◌, inl, inr, ⊎_elim, true, List, [], arith, ℤ, ◌≤ℤ◌, ◌<ℤ◌}
-use Rattle.std.specs.Prelude.{All, Contains, Option, Some, None, IfSome, int_le, slice_get}
+use Rattle.std.proofs.Common.{◌≡◌, refl, sym, ◌∙◌, ap, subst, ℕ, ◌+◌, ◌⊎◌, inl, inr, ⊎_elim, true, List, arith, ℤ, ◌≤ℤ◌, ◌<ℤ◌}
+use Rattle.std.specs.Prelude.{All, Contains, Option, Some, None, IfSome, int_le}
 use Rattle.std.proofs.lemmas.Bool.{ne_eqb}
 use Rattle.std.proofs.lemmas.Int.{ints}
 use Rattle.std.proofs.lemmas.List.Elements.{All-contains, All-push, All-weaker}
@@ -26,7 +26,6 @@ use Rattle.round_terms.specs.Terms.{Covers, Facts, facts_after}
 use Rattle.round_search.specs.declared.search.Source.{Source}
 use Rattle.round_search.specs.declared.settled.Settled.{Settled}
 use Rattle.round_search.specs.declared.settled.SettledLabel.{SettledLabel}
-use Rattle.round_search.specs.Cuts.{Lacks}
 use Rattle.round_search.specs.Searches.{IsSource, StepsBy}
 use Rattle.round_search.specs.Settled.{AddsLabel, ArePassed, HasCheaper, IsDone, IsSettledAt, IsTried, IsTriedBy, StayLabels}
 use Rattle.round_search.proofs.FoundLaws.{lacks_below}

@@ -1,11 +1,9 @@
 -- The labels from which a round goes on.
-use Rattle.std.proofs.Common.{◌≡◌, sym, ◌∙◌, ap, subst, ℕ, ◌+◌, ◌<◌, ◌≤◌, ◌⊎◌, inl, inr, ⊎_elim, Bool, List, [], ◌∷◌, ◌++◌, length, ◌-◌, arith}
+use Rattle.std.proofs.Common.{◌≡◌, sym, ◌∙◌, ap, subst, ℕ, ◌+◌, ◌<◌, ◌≤◌, ◌⊎◌, inl, inr, ⊎_elim, List, [], ◌∷◌, ◌++◌, length, ◌-◌, arith}
 use Rattle.std.specs.Prelude.{All, Some, slice_get, IsTrue, take}
 use Rattle.std.proofs.lemmas.Bool.{cases_lt}
 use Rattle.std.proofs.lemmas.Option.{same_Some, slice_get_within}
 use Rattle.transit_base.specs.declared.numbers.StopId.{StopId}
-use Rattle.feed_rows.specs.declared.journeys.Query.{Query}
-use Rattle.feed_rows.specs.FeedRows.{FeedRows}
 use Rattle.feed_rows.specs.Journeys.{stands_for}
 use Rattle.feed_rows.specs.JourneyStands.{first_stand}
 use Rattle.plain_laws.proofs.Laws.{All-slice_get, slice_get-Contains, slice_get-append_left, slice_get-append_right}
@@ -16,7 +14,7 @@ use Rattle.round_terms.specs.Labels.{facts_of}
 use Rattle.round_search.specs.Scans.{IsOrigin}
 use Rattle.round_search.specs.Searches.{AreLast, IsFit, StepsTo, StepsWithin, search_of, told}
 use Rattle.round_terms.specs.Steps.{stand_of_facts, ways}
-use Rattle.round_terms.specs.Terms.{Facts, Terms}
+use Rattle.round_terms.specs.Terms.{Facts}
 use Rattle.round_terms.specs.Tasks.{Task}
 
 module _ {F M : Type 0} (task : Task F M) where

@@ -1,8 +1,7 @@
 -- What a search for an answer needn't look at, since it ends too late, or costs too much.
-use Rattle.std.specs.Prelude.{⊤, ◌≡◌, ◌⊎◌, ℕ, ◌+◌, ◌<◌, ◌≤◌, Bool, true, false, ℤ, ◌<ℤ◌, ◌≤ℤ◌, List, Option, Some, None}
+use Rattle.std.specs.Prelude.{⊤, ◌≡◌, ◌⊎◌, ℕ, ◌+◌, ◌<◌, ◌≤◌, true, false, ℤ, ◌<ℤ◌, ◌≤ℤ◌, List, Option}
 use Rattle.transit_base.specs.declared.moments.Moment.{Moment}
 use Rattle.feed_rows.specs.declared.fares.Triple.{Triple}
-use Rattle.feed_rows.specs.declared.journeys.Ride.{Ride}
 use Rattle.feed_rows.specs.declared.journeys.RideFacts.{RideFacts}
 use Rattle.plan_rides.specs.Cutoffs.{CutoffOf, is_early}
 use Rattle.plan_rides.specs.InTime.{deadline}
@@ -10,14 +9,12 @@ use Rattle.search_laws.specs.Ways.{LeadsBy}
 use Rattle.round_search.specs.declared.bounds.Until.{Until}
 use Rattle.round_terms.specs.declared.finals.Final.{Final}
 use Rattle.round_terms.specs.declared.tariff.LeastPrice.{LeastPrice}
-use Rattle.round_terms.specs.declared.label.Label.{Label}
 use Rattle.round_terms.specs.Costs.{IsDearer, LeadsOn}
 use Rattle.round_search.specs.Cuts.{IsFoundBy, Lacks, has_ahead}
-use Rattle.round_terms.specs.Labels.{facts_of}
 use Rattle.round_search.specs.Searches.{StepsTo}
-use Rattle.round_terms.specs.Steps.{IsStep, ways}
+use Rattle.round_terms.specs.Steps.{ways}
 use Rattle.round_terms.specs.Tasks.{Task}
-use Rattle.round_terms.specs.Terms.{Facts, Terms}
+use Rattle.round_terms.specs.Terms.{Facts}
 
 -- ---- the rides that are looked at
 

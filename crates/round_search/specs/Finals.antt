@@ -3,15 +3,12 @@ use Rattle.std.specs.Prelude.{◌≡◌, ℕ, ◌<◌, true, List, length, slice
 use Rattle.std.specs.List.{list_any}
 use Rattle.transit_base.specs.declared.numbers.StopId.{StopId}
 use Rattle.feed_rows.specs.declared.fares.Triple.{Triple}
-use Rattle.feed_rows.specs.declared.journeys.Query.{Query}
-use Rattle.feed_rows.specs.FeedRows.{FeedRows}
 use Rattle.feed_rows.specs.ParetoTriples.{at_most as is_no_worse}
 use Rattle.plain_laws.specs.Adds.{Adds, AllStay}
 use Rattle.round_terms.specs.declared.finals.Final.{Final}
 use Rattle.round_terms.specs.declared.label.Label.{Label}
 use Rattle.round_terms.specs.Labels.{facts_of}
 use Rattle.round_terms.specs.Steps.{IsEnd}
-use Rattle.round_terms.specs.Terms.{Terms}
 use Rattle.round_terms.specs.Tasks.{Task}
 
 -- some final's triple is at most this one

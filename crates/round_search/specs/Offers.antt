@@ -1,5 +1,5 @@
 -- How a round goes on from the positions that its labels reach.
-use Rattle.std.specs.Prelude.{◌≡◌, ◌⊎◌, ℕ, ◌<◌, ◌-◌, true, false, List, All, Some, length, slice_get, ℤ, ◌<ℤ◌}
+use Rattle.std.specs.Prelude.{◌≡◌, ◌⊎◌, ℕ, ◌<◌, ◌-◌, true, false, List, All, Some, length, slice_get, ◌<ℤ◌}
 use Rattle.feed_rows.specs.declared.journeys.RideFacts.{RideFacts}
 use Rattle.plan_rides.specs.Cutoffs.{AreLastDepartures, CutoffOf, cutoff_of, is_early}
 use Rattle.plan_rides.specs.Reached.{AreKept, HoldsFrom, IsReachedFrom}

@@ -1,30 +1,24 @@
 -- How a round goes on from its labels: by the positions that they reach.
-use Rattle.std.specs.Prelude.{◌≡◌, ◌⊎◌, ℕ, ◌+◌, ◌<◌, ◌≤◌, ◌^◌, Bool, false, List, [], ◌∷◌, ◌++◌, Contains, Some, length, slice_get, ℤ, ◌≤ℤ◌, ◌<ℤ◌}
-use Rattle.feed_rows.specs.declared.journeys.Query.{Query}
-use Rattle.feed_rows.specs.FeedRows.{FeedRows}
+use Rattle.std.specs.Prelude.{◌≡◌, ◌⊎◌, ℕ, ◌+◌, ◌<◌, ◌≤◌, ◌^◌, List, [], ◌∷◌, ◌++◌, Contains, Some, length, slice_get, ℤ, ◌≤ℤ◌}
 use Rattle.feed_rows.specs.SoundFeed.{IsSoundFeed}
 use Rattle.plan_rides.specs.Boarding.{MayRide}
 use Rattle.plan_rides.specs.Departures.{TakesServing}
 use Rattle.plan_rides.specs.InTime.{IsUsualQuery, deadline}
-use Rattle.plan_rides.specs.Reached.{HoldsFrom, IsReachedFrom, Positioned}
+use Rattle.plan_rides.specs.Reached.{IsReachedFrom, Positioned}
 use Rattle.plan_rides.specs.declared.positions.Reached.{Reached}
 use Rattle.search_laws.specs.Stores.{Spreads}
 use Rattle.round_terms.specs.declared.label.Label.{Label}
 use Rattle.round_search.specs.declared.scan.Round.{Round}
 use Rattle.round_search.specs.declared.search.Source.{Source}
-use Rattle.round_search.specs.Bounds.{AreUntils, DepartsAfter, IsAnyRide, IsCutAfter, IsFair}
+use Rattle.round_search.specs.Bounds.{AreUntils}
 use Rattle.round_search.specs.Cuts.{Lacks}
 use Rattle.round_search.specs.Finals.{HasEnds}
 use Rattle.round_search.specs.declared.bounds.Until.{Until}
-use Rattle.round_terms.specs.declared.finals.Final.{Final}
 use Rattle.round_search.specs.declared.scan.Marks.{Marks}
-use Rattle.plan_rides.specs.Cutoffs.{CutoffOf, cutoff_of, is_early}
-use Rattle.plan_rides.specs.declared.caught.CaughtRide.{CaughtRide}
-use Rattle.feed_rows.specs.declared.journeys.RideFacts.{RideFacts}
 use Rattle.round_terms.specs.Labels.{facts_of}
 use Rattle.round_search.specs.Searches.{AreLast, IsFit, StepsTo, StepsWithin, search_of}
 use Rattle.round_terms.specs.Steps.{stand_of_facts}
-use Rattle.round_terms.specs.Terms.{Facts, Terms}
+use Rattle.round_terms.specs.Terms.{Facts}
 use Rattle.round_terms.specs.Tasks.{Task}
 
 -- ---- rounds

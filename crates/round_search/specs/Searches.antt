@@ -1,10 +1,9 @@
 -- The search by rounds as one that goes on from labels, and the parts of its rounds.
-use Rattle.std.specs.Prelude.{◌≡◌, ℕ, ◌+◌, ◌<◌, ◌≤◌, ◌^◌, Bool, List, [], length, slice_get, All, Some, None, false}
+use Rattle.std.specs.Prelude.{◌≡◌, ℕ, ◌+◌, ◌<◌, ◌≤◌, ◌^◌, List, [], length, slice_get, All, Some, None, false}
 use Rattle.transit_base.specs.declared.numbers.StopId.{StopId}
 use Rattle.feed_rows.specs.declared.fares.Triple.{Triple}
 use Rattle.feed_rows.specs.declared.journeys.Query.{Query}
 use Rattle.feed_rows.specs.declared.journeys.Ride.{Ride}
-use Rattle.feed_rows.specs.FeedRows.{FeedRows}
 use Rattle.plan_rides.specs.Boarding.{MayRide}
 use Rattle.plan_rides.specs.InTime.{IsUsualQuery, IsWithinWindow}
 use Rattle.plan_rides.specs.declared.caught.CaughtRide.{CaughtRide}
@@ -17,7 +16,7 @@ use Rattle.round_search.specs.declared.search.Found.{Found}
 use Rattle.round_search.specs.declared.search.Source.{Source}
 use Rattle.round_terms.specs.declared.finals.Final.{Final}
 use Rattle.round_search.specs.Cuts.{Cuts, IsFoundBy, Lacks}
-use Rattle.round_search.specs.Finals.{AddsEnds, EndsBelow, HasEnds, IsFinal, is_bettered}
+use Rattle.round_search.specs.Finals.{AddsEnds, EndsBelow, HasEnds, IsFinal}
 use Rattle.round_terms.specs.Labels.{covers, facts_of}
 use Rattle.round_terms.specs.Steps.{IsEnd, IsStep, stand_of_facts, start_facts, ways}
 use Rattle.round_terms.specs.Terms.{Facts, Terms, facts_after}

@@ -1,5 +1,4 @@
-use Rattle.std.proofs.Common.{sym, subst, ◌∙◌, ap}
-use Rattle.round_terms.specs.Tasks.{Asked}
+use Rattle.std.proofs.Common.{subst}
 use Rattle.round_search.proofs.search.Search.limit.Goals as goal
 
 pub returns-clause-laws : goal.returns-clause-laws

@@ -1,11 +1,10 @@
-use Rattle.std.proofs.Common.{refl, sym, subst, ◌-◌, pos, List, slice_index_or}
+use Rattle.std.proofs.Common.{refl, sym, subst, ◌-◌, List, slice_index_or}
 use Rattle.std.specs.Prelude.{All}
 use Rattle.std.proofs.lemmas.Option.{slice_get-get_or}
 use Rattle.std.proofs.lemmas.Result.{on_ok_weaker}
 use Rattle.plan_rides.specs.Cutoffs.{cutoff_of}
 use Rattle.plan_rides.specs.Reached.{HoldsFrom}
 use Rattle.plan_rides.specs.declared.caught.CaughtRide.{CaughtRide}
-use Rattle.round_terms.specs.Labels.{facts_of}
 use Rattle.round_terms.specs.Legs.{AreKnown}
 use Rattle.round_terms.specs.Tasks.{HasLaws, task_of}
 use Rattle.round_search.specs.Bags.{in_bags}

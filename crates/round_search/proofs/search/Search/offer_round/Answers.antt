@@ -1,4 +1,4 @@
-use Rattle.std.proofs.Common.{refl, sym, subst, All}
+use Rattle.std.proofs.Common.{sym, subst, All}
 use Rattle.std.proofs.lemmas.Result.{on_ok_weaker}
 use Rattle.round_terms.specs.Tasks.{HasLaws, task_of}
 use Rattle.round_search.specs.Bags.{in_bags}

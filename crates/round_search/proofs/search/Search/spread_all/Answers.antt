@@ -1,10 +1,10 @@
-use Rattle.std.proofs.Common.{◌≡◌, [], refl, sym, ◌∙◌, subst, ◌+◌, ◌<◌, ◌^◌, ◌++◌, length, arith}
+use Rattle.std.proofs.Common.{[], refl, sym, ◌∙◌, subst, ◌+◌, ◌++◌, length, arith}
 use Rattle.search_laws.specs.Links.{CoversStarts}
-use Rattle.search_laws.specs.Stores.{AreClosedTo, AreStored, Spreads, StepsFrom}
+use Rattle.search_laws.specs.Stores.{AreClosedTo, AreStored}
 use Rattle.search_laws.proofs.StoreLaws.{closed_more, closed_weaker, few_more, fit_more, starts_more, stored_more}
 use Rattle.round_search.specs.Bags.{gathered, in_bags}
 use Rattle.round_search.specs.Cuts.{Lacks}
-use Rattle.round_search.specs.Finals.{AddsEnds, EndsBelow, HasEnds}
+use Rattle.round_search.specs.Finals.{AddsEnds, EndsBelow}
 use Rattle.round_search.specs.Searches.{AreLast, IsGathered, search_of, told}
 use Rattle.round_terms.specs.Steps.{ways}
 use Rattle.round_search.proofs.CutLaws.{bettered_still}
