@@ -1,12 +1,2 @@
-pub mod Bounds
-pub mod Gathered
-pub mod Legs
-pub mod Moves
-pub mod Planned
-pub mod Settled
-pub mod Scans
 pub mod Searched
-pub mod Sources
-pub mod Stores
-pub mod Lasts
-pub mod Prices
+pub mod Planned

@@ -12,6 +12,11 @@ use Rattle.round_table.specs.Tables.{TableParts}
 use Rattle.plan_rounds.specs.Searched.{IsTableOf, searched}
 use Rattle.round_table.specs.Tables.{table_by}
 
+-- a query over a feed, and whether the plan is to be whole, or to matter for the answer alone
+pub record PlanOf : Type 0 where
+  pub asked : Asked
+  pub whole : Bool
+
 -- the table is that of a search which isn't loose, to which the triples of these entries were given; and they are of the query
 pub record IsPlanned (asked : Asked) (whole : Bool) (table : TableParts) (known : List Entry) : Type 0 where
   pub right : All (IsEntry asked.feed asked.query) known

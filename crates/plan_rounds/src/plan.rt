@@ -1,5 +1,5 @@
 //! The exact answer to a query, by rounds.
-ghost use Rattle.std.specs.Prelude.{◌≡◌, [], All, IfOk, OnOk, map, true};
+ghost use Rattle.std.specs.Prelude.{◌≡◌, [], All, IfOk, OnOk, map, false, true};
 ghost use Rattle.fare_automaton.specs.Terms.{terms};
 ghost use Rattle.feed_rows.specs.FeedRows.{FeedRows};
 ghost use Rattle.feed_rows.specs.declared.fares.Entry.{Entry};
@@ -7,43 +7,59 @@ ghost use Rattle.feed_rows.specs.declared.journeys.Query.{Query};
 ghost use Rattle.feed_rows.specs.JourneyEntries.{CoversOffers, IsEntry, IsExactAnswer};
 ghost use Rattle.plan_rides.specs.InTime.{IsUsualQuery};
 ghost use Rattle.feed_rows.specs.ClosedTable.{IsClosedTable};
+ghost use Rattle.feed_rows.specs.SoundFeed.{IsSoundFeed};
 ghost use Rattle.feed_rows.specs.SoundTable.{IsSoundTable};
 ghost use Rattle.feed_rows.specs.Journeys.{asked};
 ghost use Rattle.plan_rides.specs.Scopes.{IsInScope};
-ghost use Rattle.plan_rounds.specs.Moves.{HasFares};
-ghost use Rattle.plan_rounds.specs.Prices.{AreLeastPrices};
 ghost use Rattle.plan_rides.specs.Spans.{AreSpans, no_spans};
+ghost use Rattle.round_terms.specs.Tasks.{IsAim};
+ghost use Rattle.fare_tariff.specs.FareTerms.{Knows};
 ghost use Rattle.plan_rounds.specs.Planned.{AddsEntries, CoversAllBy, IsPlanned};
-ghost use Rattle.plan_rounds.specs.Searched.{IsAim, IsTableOf, aim_of, searched};
+ghost use Rattle.plan_rounds.specs.Searched.{IsTableOf, aim_of, searched};
 ghost use Rattle.round_table.specs.Tables.{CoversAllOffers, table_by};
 
-use crate::bounds::takes_back;
-use crate::lasts::last_groups;
-use crate::prices::LeastPrices;
-use crate::search::{Aim, Found, Search};
 use fare_automaton::Automaton;
-use fare_bounds::FareBounds;
+use fare_tariff::{FareLegs, FareRoom, FareTariff, LeastPrices};
 use fare_timeframes::Timeframes;
-use feed_rows::{Entry, Feed, Query, Triple};
+use feed_rows::{Entry, Feed, Move, Query, Triple};
 use feed_timetable::Timetable;
 use pareto_front::Front;
 use plan_rides::{Rides, Scope, SpanRuns, Spans, deadline};
+use ride_kinds::LegKinds;
+use round_search::{Room, Search};
 use round_table::RoundTable;
+use round_terms::Aim;
 use std::alloc::{AllocError, Global};
+use std::marker::Model;
 use transit_base::Moment;
 
-impl<'s, 'l> Search<'s, 'l> {
-    /// The table of all rounds.
-    fn table(&self, found: &mut Found<'s, '_>) -> Result<RoundTable, AllocError>
-        requires fares { HasFares self.now found.old.known }
-        ensures fares { HasFares self.now found.new.known }
-        ensures is { IfOk result (λ table. IsTableOf self.now (table_by table)) }
-    {
-        let _whole = self.is_whole();
-        let _feed = self.feed();
-        let (labels, front) = self.labels(found)?;
-        Ok(RoundTable::of(labels, front.into_items()))
-    }
+/// What the searches of a plan share: the rides of the query, what they cost, and by what rides are passed over; the plan is to be whole,
+/// or to matter for the answer alone. Contracts see the feed, the query, and which of the two.
+#[derive(Drop)]
+struct Plan<'l> {
+    alloc: Global,
+    rides: &'l Rides<'l>,
+    /// The fares for the query's buyer.
+    automaton: &'l Automaton<'l>,
+    /// The least seconds to a journey's end; none where the plan is to be whole.
+    spans: &'l Spans,
+    /// How little further rides can cost.
+    prices: &'l LeastPrices,
+    whole: bool,
+}
+
+impl<'l> Model for Plan<'l> {
+    ghost use Rattle.std.specs.Prelude.{◌≡◌, true};
+    ghost use Rattle.fare_automaton.specs.Terms.{terms};
+    ghost use Rattle.fare_tariff.specs.Prices.{AreLeastPrices};
+    ghost use Rattle.plan_rides.specs.Spans.{AreSpans, no_spans};
+    ghost use Rattle.plan_rounds.specs.Planned.{PlanOf};
+
+    ghost Value = { PlanOf };
+
+    ghost view = { λ s. record { asked = s.rides.now; whole = s.whole } };
+
+    ghost invariant = { λ s. (s.automaton.now ≡ terms s.rides.now.feed s.rides.now.query.buyer) × AreSpans s.rides.now.feed s.rides.now.query s.spans.now × (s.whole ≡ true → s.spans.now ≡ no_spans) × AreLeastPrices s.rides.now.feed s.rides.now.query s.prices.now };
 }
 
 /// The least seconds to a journey's end; none for a search that is to be whole: it tries each ride.
@@ -58,43 +74,6 @@ fn spans_of(alloc: Global, rides: &Rides, whole: bool) -> Result<Spans, AllocErr
         return Ok(Spans::none(alloc));
     }
     rides.spans(alloc)
-}
-
-/// The table of the search by these with this aim.
-///
-/// # Errors
-/// Want of memory; so counts that there would be 2^32 labels or more.
-fn table_with<'s, 'l>(
-    alloc: Global,
-    rides: &'l Rides<'s>,
-    automaton: &'l Automaton<'s>,
-    feed: &'l Feed,
-    spans: &'l Spans,
-    prices: &'l LeastPrices,
-    aim: Aim<'l>,
-    found: &mut Found<'s, '_>,
-) -> Result<RoundTable, AllocError>
-    requires feed { feed.now ≡ rides.now.feed }
-    requires fares { found.old.known.terms ≡ terms rides.now.feed rides.now.query.buyer }
-    requires automaton { automaton.now ≡ terms rides.now.feed rides.now.query.buyer }
-    requires spans { AreSpans rides.now.feed rides.now.query spans.now }
-    requires prices { AreLeastPrices rides.now.feed rides.now.query prices.now }
-    requires none { aim.whole ≡ true → spans.now ≡ no_spans }
-    requires aim { IsAim (aim_of aim) }
-    ensures fares { found.new.known.terms ≡ found.old.known.terms }
-    ensures is { IfOk result (λ table. IsTableOf (searched rides.now (aim_of aim.entry)) (table_by table)) }
-{
-    let search = Search {
-        alloc,
-        rides,
-        feed,
-        automaton,
-        spans,
-        prices,
-        takes_back: takes_back(feed),
-        aim,
-    };
-    search.table(found)
 }
 
 /// The triples of entries.
@@ -148,169 +127,161 @@ fn is_small(feed: &Feed) -> bool {
     feed.stop_times.items().len() <= SMALL_FEED
 }
 
-/// Entries of the query that are found soon, by a search that may pass over any journey, beside those with these triples: with a
-/// horizon all that end by then.
-///
-/// # Errors
-/// Want of memory; so counts that there would be 2^32 labels or more.
-fn found_soon<'s, 'l>(
-    alloc: Global,
-    rides: &'l Rides<'s>,
-    automaton: &'l Automaton<'s>,
-    feed: &'l Feed,
-    spans: &'l Spans,
-    prices: &'l LeastPrices,
-    given: &'l [Triple],
-    horizon: Option<Moment>,
-    found: &mut Found<'s, '_>,
-) -> Result<Vec<Entry>, AllocError>
-    requires feed { feed.now ≡ rides.now.feed }
-    requires fares { found.old.known.terms ≡ terms rides.now.feed rides.now.query.buyer }
-    requires automaton { automaton.now ≡ terms rides.now.feed rides.now.query.buyer }
-    requires spans { AreSpans rides.now.feed rides.now.query spans.now }
-    requires prices { AreLeastPrices rides.now.feed rides.now.query prices.now }
-    ensures fares { found.new.known.terms ≡ found.old.known.terms }
-    ensures are { IfOk result (λ entries. All (IsEntry rides.now.feed rides.now.query) entries.items) }
-{
-    let aim = Aim {
-        whole: false,
-        loose: true,
-        given,
-        horizon,
-    };
-    table_with(alloc, rides, automaton, feed, spans, prices, aim, found)?.entries(alloc)
-}
-
-/// Entries of the query that are found soon, by searches that may pass over any journey; none for a search that is to be whole. The
-/// first finds some at once; the second, over a feed that isn't small, what is cheaper and ends little later, so that a cheap journey
-/// is known to the search that looks at all moments.
-///
-/// # Errors
-/// Want of memory; so counts that there would be 2^32 labels or more.
-fn known_with<'s>(
-    alloc: Global,
-    rides: &Rides<'s>,
-    automaton: &Automaton<'s>,
-    feed: &Feed,
-    spans: &Spans,
-    prices: &LeastPrices,
-    whole: bool,
-    found: &mut Found<'s, '_>,
-) -> Result<Vec<Entry>, AllocError>
-    requires feed { feed.now ≡ rides.now.feed }
-    requires fares { found.old.known.terms ≡ terms rides.now.feed rides.now.query.buyer }
-    requires automaton { automaton.now ≡ terms rides.now.feed rides.now.query.buyer }
-    requires spans { AreSpans rides.now.feed rides.now.query spans.now }
-    requires prices { AreLeastPrices rides.now.feed rides.now.query prices.now }
-    ensures fares { found.new.known.terms ≡ found.old.known.terms }
-    ensures are { IfOk result (λ entries. All (IsEntry rides.now.feed rides.now.query) entries.items) }
-    ensures none { IfOk result (λ entries. whole ≡ true → entries.items ≡ []) }
-{
-    if whole {
-        return Ok(Vec::new(alloc));
+impl<'l> Plan<'l> {
+    /// The feed.
+    fn feed(&self) -> &'l Feed
+        ensures value { result.now ≡ self.now.asked.feed }
+        ensures sound { IsSoundFeed self.now.asked.feed }
+    {
+        self.automaton.feed()
     }
-    let first = found_soon(
-        alloc,
-        rides,
-        automaton,
-        feed,
-        spans,
-        prices,
-        &[],
-        None,
-        found,
-    )?;
-    let given = triples_of(alloc, &first)?;
-    let horizon = horizon_of(rides.query().departure, &given);
-    if horizon.is_none() || is_small(feed) {
-        return Ok(first);
+
+    /// The query.
+    fn query(&self) -> &'l Query
+        ensures is { result.now ≡ self.now.asked.query }
+        ensures usual { IsUsualQuery self.now.asked.query }
+    {
+        self.rides.query()
     }
-    let second = found_soon(
-        alloc, rides, automaton, feed, spans, prices, &given, horizon, found,
-    )?;
-    better_of(alloc, first, second)
-}
 
-/// The table of the search by these, of all labels, or of those alone that matter for the answer beside entries that are found soon,
-/// with these.
-///
-/// # Errors
-/// Want of memory; so counts that there would be 2^32 labels or more.
-fn planned_with<'s>(
-    alloc: Global,
-    rides: &Rides<'s>,
-    automaton: &Automaton<'s>,
-    feed: &Feed,
-    spans: &Spans,
-    prices: &LeastPrices,
-    whole: bool,
-    found: &mut Found<'s, '_>,
-) -> Result<(RoundTable, Vec<Entry>), AllocError>
-    requires feed { feed.now ≡ rides.now.feed }
-    requires fares { found.old.known.terms ≡ terms rides.now.feed rides.now.query.buyer }
-    requires automaton { automaton.now ≡ terms rides.now.feed rides.now.query.buyer }
-    requires spans { AreSpans rides.now.feed rides.now.query spans.now }
-    requires prices { AreLeastPrices rides.now.feed rides.now.query prices.now }
-    requires none { whole ≡ true → spans.now ≡ no_spans }
-    ensures { IfOk result (λ planned. IsPlanned rides.now whole planned.0 planned.1.items) }
-{
-    let known = known_with(alloc, rides, automaton, feed, spans, prices, whole, found)?;
-    let given = triples_of(alloc, &known)?;
-    let aim = Aim {
-        whole,
-        loose: false,
-        given: &given,
-        horizon: None,
-    };
-    let table = table_with(alloc, rides, automaton, feed, spans, prices, aim, found)?;
-    Ok((table, known))
-}
+    /// The table of the search with this aim.
+    ///
+    /// # Errors
+    /// Want of memory; so counts that there would be 2^32 labels or more.
+    fn table(
+        &self,
+        aim: Aim<'_>,
+        room: &mut Room<Move, FareLegs<'l>, FareRoom>,
+    ) -> Result<RoundTable, AllocError>
+        requires aim { IsAim aim }
+        requires whole { aim.whole ≡ self.now.whole }
+        requires knows { Knows self.now.asked.feed self.now.asked.query.buyer room.old.kept.legs }
+        ensures knows { OnOk result (Knows self.now.asked.feed self.now.asked.query.buyer room.new.kept.legs) }
+        ensures is { IfOk result (λ table. IsTableOf (searched self.now.asked (aim_of aim.entry)) (table_by table)) }
+    {
+        let _feed = self.feed();
+        let _query = self.query();
+        let quick = aim.loose && aim.horizon.is_none();
+        let tariff = FareTariff::of(self.rides, self.automaton, self.prices, self.whole, quick);
+        let search = Search::of(self.alloc, self.rides, &tariff, self.spans, aim);
+        let (labels, front) = search.labels(room)?;
+        if labels.len() >= 1 << 32 {
+            return Err(AllocError);
+        }
+        Ok(RoundTable::of(labels, front.into_items()))
+    }
 
-/// The least prices of further rides.
-///
-/// # Errors
-/// Want of memory.
-fn prices_of(
-    alloc: Global,
-    rides: &Rides,
-    feed: &Feed,
-    spans: &Spans,
-) -> Result<LeastPrices, AllocError>
-    requires feed { feed.now ≡ rides.now.feed }
-    requires spans { AreSpans rides.now.feed rides.now.query spans.now }
-    ensures { IfOk result (AreLeastPrices rides.now.feed rides.now.query) }
-{
-    let query = rides.query();
-    let lasts = last_groups(alloc, rides, spans)?;
-    let bounds = FareBounds::of(alloc, feed, query.buyer, query.rides, &lasts)?;
-    Ok(LeastPrices { bounds, lasts })
+    /// Entries of the query that are found soon, by a search that may pass over any journey, beside those with these triples: with a
+    /// horizon all that end by then.
+    ///
+    /// # Errors
+    /// Want of memory; so counts that there would be 2^32 labels or more.
+    fn found_soon(
+        &self,
+        given: &[Triple],
+        horizon: Option<Moment>,
+        room: &mut Room<Move, FareLegs<'l>, FareRoom>,
+    ) -> Result<Vec<Entry>, AllocError>
+        requires answer { self.now.whole ≡ false }
+        requires knows { Knows self.now.asked.feed self.now.asked.query.buyer room.old.kept.legs }
+        ensures knows { OnOk result (Knows self.now.asked.feed self.now.asked.query.buyer room.new.kept.legs) }
+        ensures are { IfOk result (λ entries. All (IsEntry self.now.asked.feed self.now.asked.query) entries.items) }
+    {
+        let aim = Aim {
+            whole: false,
+            loose: true,
+            given,
+            horizon,
+        };
+        self.table(aim, room)?.entries(self.alloc)
+    }
+
+    /// Entries of the query that are found soon, by searches that may pass over any journey; none for a plan that is to be whole. The
+    /// first finds some at once; the second, over a feed that isn't small, what is cheaper and ends little later, so that a cheap
+    /// journey is known to the search that looks at all moments.
+    ///
+    /// # Errors
+    /// Want of memory; so counts that there would be 2^32 labels or more.
+    fn known(&self, room: &mut Room<Move, FareLegs<'l>, FareRoom>) -> Result<Vec<Entry>, AllocError>
+        requires { Knows self.now.asked.feed self.now.asked.query.buyer room.old.kept.legs }
+        ensures knows { OnOk result (Knows self.now.asked.feed self.now.asked.query.buyer room.new.kept.legs) }
+        ensures are { IfOk result (λ entries. All (IsEntry self.now.asked.feed self.now.asked.query) entries.items) }
+        ensures none { IfOk result (λ entries. self.now.whole ≡ true → entries.items ≡ []) }
+    {
+        if self.whole {
+            return Ok(Vec::new(self.alloc));
+        }
+        let first = self.found_soon(&[], None, room)?;
+        let given = triples_of(self.alloc, &first)?;
+        let horizon = horizon_of(self.query().departure, &given);
+        if horizon.is_none() || is_small(self.feed()) {
+            return Ok(first);
+        }
+        let second = self.found_soon(&given, horizon, room)?;
+        better_of(self.alloc, first, second)
+    }
+
+    /// The table of the search, of all labels, or of those alone that matter for the answer beside entries that are found soon, with
+    /// these.
+    ///
+    /// # Errors
+    /// Want of memory; so counts that there would be 2^32 labels or more.
+    fn planned(
+        &self,
+        room: &mut Room<Move, FareLegs<'l>, FareRoom>,
+    ) -> Result<(RoundTable, Vec<Entry>), AllocError>
+        requires { Knows self.now.asked.feed self.now.asked.query.buyer room.old.kept.legs }
+        ensures { IfOk result (λ planned. IsPlanned self.now.asked self.now.whole planned.0 planned.1.items) }
+    {
+        let known = self.known(room)?;
+        let given = triples_of(self.alloc, &known)?;
+        let aim = Aim {
+            whole: self.whole,
+            loose: false,
+            given: &given,
+            horizon: None,
+        };
+        let table = self.table(aim, room)?;
+        Ok((table, known))
+    }
 }
 
 /// The same by the rides, and by what their legs cost.
 ///
 /// # Errors
 /// Want of memory; so counts that there would be 2^32 labels or more.
-fn planned_at<'s>(
+fn planned_at<'l>(
     alloc: Global,
-    rides: &Rides<'s>,
-    automaton: &Automaton<'s>,
-    feed: &Feed,
+    rides: &'l Rides<'l>,
+    automaton: &'l Automaton<'l>,
     whole: bool,
 ) -> Result<(RoundTable, Vec<Entry>), AllocError>
-    requires feed { feed.now ≡ rides.now.feed }
-    requires automaton { automaton.now ≡ terms rides.now.feed rides.now.query.buyer }
+    requires { automaton.now ≡ terms rides.now.feed rides.now.query.buyer }
     ensures { IfOk result (λ planned. IsPlanned rides.now whole planned.0 planned.1.items) }
 {
     let query = rides.query();
     let calendar = rides.timetable().calendar();
     let spans = spans_of(alloc, rides, whole)?;
-    let prices = prices_of(alloc, rides, feed, &spans)?;
-    match Timeframes::between(alloc, feed, calendar, query.departure, deadline(query)) {
+    let prices = LeastPrices::of(alloc, rides, &spans)?;
+    match Timeframes::between(
+        alloc,
+        automaton.feed(),
+        calendar,
+        query.departure,
+        deadline(query),
+    ) {
         Ok(timeframes) => {
-            let mut found = Found::none(alloc, automaton, &timeframes)?;
-            planned_with(
-                alloc, rides, automaton, feed, &spans, &prices, whole, &mut found,
-            )
+            let known = LegKinds::of(alloc, automaton, &timeframes)?;
+            let mut room = Room::of(alloc, FareLegs::of(alloc, known), FareRoom::none(alloc));
+            let plan = Plan {
+                alloc,
+                rides,
+                automaton,
+                spans: &spans,
+                prices: &prices,
+                whole,
+            };
+            plan.planned(&mut room)
         }
         Err(AllocError) => Err(AllocError),
     }
@@ -327,7 +298,7 @@ fn planned_over<'s>(
     ensures { IfOk result (λ planned. IsPlanned rides.now whole planned.0 planned.1.items) }
 {
     match Automaton::compile(alloc, feed, rides.query().buyer) {
-        Ok(automaton) => planned_at(alloc, rides, &automaton, feed, whole),
+        Ok(automaton) => planned_at(alloc, rides, &automaton, whole),
         Err(AllocError) => Err(AllocError),
     }
 }

@@ -11,13 +11,14 @@ use Rattle.feed_rows.specs.declared.fares.Entry.{Entry}
 use Rattle.feed_rows.specs.RoundTables.{Final as KeptFinal, RoundTable, with_ride, traced, entry_of_final, entries_of}
 use Rattle.plain_laws.specs.Plain.{collect_below}
 use Rattle.plain_laws.proofs.Laws.{collect_below_more, collect_below_tells}
-use Rattle.round_table.specs.declared.finals.Final.{Final}
+use Rattle.fare_tariff.specs.declared.fare.Fare.{Fare}
+use Rattle.round_terms.specs.declared.finals.Final.{Final}
 use Rattle.round_table.specs.Finals.{final_of, finals_of}
-use Rattle.round_labels.specs.declared.label.Label.{Label}
-use Rattle.round_labels.specs.Labels.{label_of, labels_of}
+use Rattle.round_terms.specs.declared.label.Label.{Label}
+use Rattle.round_table.specs.Labels.{label_of, labels_of}
 
 -- a label that leads back leads to its parent, which leads back by one ride less
-pub traced_parent : (labels : List Label) (rides number : ℕ) (label : Label) (parent : ℕ) (ride : Ride) (taken : Move) →
+pub traced_parent : (labels : List (Label Fare Move)) (rides number : ℕ) (label : Label Fare Move) (parent : ℕ) (ride : Ride) (taken : Move) →
     (rides ≡ 0 → ⊥) → slice_get labels number ≡ Some label → label.parent ≡ Some parent → label.ride ≡ Some ride →
     label.taken ≡ Some taken →
     IsSome (traced (labels_of labels) rides number) → IsSome (traced (labels_of labels) (rides - 1) parent)
@@ -44,7 +45,7 @@ traced_parent labels (suc n) number label parent ride taken some at p r t known 
         nothing = rw (there, p, r, t, broken) refl
 
 -- so it has a parent, a ride and a move
-module _ (labels : List Label) (number : ℕ) (label : Label) (at : slice_get labels number ≡ Some label) where
+module _ (labels : List (Label Fare Move)) (number : ℕ) (label : Label Fare Move) (at : slice_get labels number ≡ Some label) where
   there : slice_get (labels_of labels) number ≡ Some (label_of label)
   there = slice_get-map label_of labels number ∙ ap (option_map label_of) at
 
@@ -71,7 +72,7 @@ module _ (labels : List Label) (number : ℕ) (label : Label) (at : slice_get la
       let wrong : false ≡ true = subst IsSome nothing known in absurd (cc)
 
 -- the partial journey of a label is that of its parent with its ride
-pub traced_more : (labels : List Label) (rides number : ℕ) (label : Label) (parent : ℕ) (ride : Ride) (taken : Move)
+pub traced_more : (labels : List (Label Fare Move)) (rides number : ℕ) (label : Label Fare Move) (parent : ℕ) (ride : Ride) (taken : Move)
     (part longer : PartialJourney) →
     (rides ≡ 0 → ⊥) → slice_get labels number ≡ Some label → label.parent ≡ Some parent → label.ride ≡ Some ride →
     label.taken ≡ Some taken →

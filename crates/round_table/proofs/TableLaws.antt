@@ -4,17 +4,19 @@ use Rattle.std.specs.Prelude.{◌≢◌, ◌==◌, option_map, slice_get}
 use Rattle.std.proofs.lemmas.Bool.{and_from, and_parts, eq-eqb, eqb-true}
 use Rattle.std.proofs.lemmas.Option.{slice_get-map, slice_get_within}
 use Rattle.transit_base.specs.declared.numbers.StopId.{StopId}
+use Rattle.feed_rows.specs.declared.states.Move.{Move}
+use Rattle.fare_tariff.specs.declared.fare.Fare.{Fare}
 use Rattle.feed_rows.specs.RoundTables.{Label as Kept}
 use Rattle.feed_rows.specs.SoundTable.{AreBags}
 use Rattle.plain_laws.specs.Plain.{at_and, filled_and}
 use Rattle.plain_laws.proofs.Laws.{AllPairs-picks_below, Contains-picks_below, filled_and-true, picks_below-tells, mapped_tells}
-use Rattle.round_labels.specs.declared.label.Label.{Label}
-use Rattle.round_labels.specs.Labels.{label_of}
-use Rattle.round_table.specs.declared.finals.Final.{Final}
+use Rattle.round_terms.specs.declared.label.Label.{Label}
+use Rattle.round_table.specs.Labels.{label_of}
+use Rattle.round_terms.specs.declared.finals.Final.{Final}
 use Rattle.round_table.specs.Tables.{is_at, table_in}
 
 -- the bags have the numbers of exactly their labels, each once
-pub are_bags : (labels : List Label) (finals : List Final) → AreBags (table_in labels finals)
+pub are_bags : (labels : List (Label Fare Move)) (finals : List Final) → AreBags (table_in labels finals)
 are_bags labels finals rides stop = record {
   right = λ number at.
       let picked = picks_below-tells (length labels) (λ i. at_and labels i (is_at rides stop)) (λ i. i) number at in

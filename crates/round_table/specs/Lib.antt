@@ -1,3 +1,4 @@
 pub mod Entries
 pub mod Finals
+pub mod Labels
 pub mod Tables

@@ -3,6 +3,7 @@ use Rattle.std.specs.Prelude.{◌≡◌, ◌⊎◌, ◌==◌, ◌&&◌, ℕ, Boo
 use Rattle.std.specs.List.{list_any}
 use Rattle.transit_base.specs.declared.numbers.StopId.{StopId}
 use Rattle.feed_rows.specs.declared.journeys.Query.{Query}
+use Rattle.feed_rows.specs.declared.states.Move.{Move}
 use Rattle.feed_rows.specs.declared.fares.Entry.{Entry}
 use Rattle.feed_rows.specs.declared.fares.Triple.{Triple}
 use Rattle.feed_rows.specs.JourneyEntries.{CoversOffers, IsEntry}
@@ -11,23 +12,24 @@ use Rattle.feed_rows.specs.FeedRows.{FeedRows}
 use Rattle.feed_rows.specs.RoundTables.{RoundTable, entries_of}
 use Rattle.feed_rows.specs.SoundTable.{AreReal, AreBags, IsWithoutExcess, EndsExactly, IsPruned}
 use Rattle.plain_laws.specs.Plain.{ids_where}
-use Rattle.round_table.specs.declared.finals.Final.{Final}
-use Rattle.round_labels.specs.declared.label.Label.{Label}
+use Rattle.fare_tariff.specs.declared.fare.Fare.{Fare}
+use Rattle.round_terms.specs.declared.finals.Final.{Final}
+use Rattle.round_terms.specs.declared.label.Label.{Label}
 use Rattle.round_table.specs.Finals.{finals_of}
-use Rattle.round_labels.specs.Labels.{labels_of}
+use Rattle.round_table.specs.Labels.{labels_of}
 
 -- the label has so many rides and is at the stop
-abbrev pub is_at : ℕ → StopId → Label → Bool
+abbrev pub is_at : ℕ → StopId → Label Fare Move → Bool
 is_at rides stop label = (label.rides == rides) && (label.stop.0 == stop.0)
 
 -- the table of these labels and finals
-abbrev pub table_in : List Label → List Final → RoundTable
+abbrev pub table_in : List (Label Fare Move) → List Final → RoundTable
 table_in labels finals =
     record { labels = labels_of labels; bag = λ rides stop. ids_where (λ i. i) (is_at rides stop) labels; finals = finals_of finals }
 
 -- what the program keeps of a table
 pub record TableParts : Type 0 where
-  pub labels : List Label
+  pub labels : List (Label Fare Move)
   pub finals : List Final
 
 -- the table of these parts

@@ -4,16 +4,16 @@ ghost use Rattle.feed_rows.specs.FareSteps.{place_taken};
 ghost use Rattle.feed_rows.specs.RoundTables.{entries_of, entry_of_final, start_at, traced, with_ride};
 ghost use Rattle.round_table.specs.Entries.{part_of};
 ghost use Rattle.round_table.specs.Finals.{final_of};
+ghost use Rattle.round_table.specs.Labels.{labels_of};
 ghost use Rattle.round_table.specs.Tables.{table_by};
-ghost use Rattle.round_labels.specs.Labels.{labels_of};
 
-use crate::finals::Final;
-use crate::table::RoundTable;
+use crate::table::{RoundTable, label_at};
+use fare_tariff::Fare;
 use feed_rows::{
     ChangeChoice, ChangeChoices, Choice, Entry, Journey, LegChoice, LegChoices, Move, Ride,
     RideList,
 };
-use round_labels::LabelList;
+use round_terms::{Final, Label};
 use std::alloc::{AllocError, Global};
 use transit_base::StopId;
 
@@ -58,11 +58,16 @@ impl Part {
     ///
     /// # Errors
     /// Want of memory.
-    pub fn of(alloc: Global, labels: &LabelList, number: u32, rides: u8) -> Result<Part, AllocError>
+    pub fn of(
+        alloc: Global,
+        labels: &[Label<Fare, Move>],
+        number: u32,
+        rides: u8,
+    ) -> Result<Part, AllocError>
         requires { IsSome (traced (labels_of labels.now) rides number) }
         ensures { IfOk result (λ part. traced (labels_of labels.now) rides number ≡ Some (part_of part)) }
     {
-        let label = labels.get(number as usize);
+        let label = label_at(labels, number as usize);
         if rides == 0 {
             return Ok(Part::start(alloc, label.stop));
         }

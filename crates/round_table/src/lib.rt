@@ -2,8 +2,6 @@
 #![tactic(auto)]
 
 mod entries;
-mod finals;
 mod table;
 
-pub use finals::Final;
 pub use table::RoundTable;

@@ -1,4 +1,4 @@
-use Rattle.plan_rounds.proofs.UsefulLaws.{none_spans}
+use Rattle.round_search.specs.NoSpans.{none_spans}
 use Rattle.plan_rounds.proofs.plan.spans_of.Goals as goal
 
 pub returns-then-whole-clause-are : goal.returns-then-whole-clause-are

@@ -1,9 +1,0 @@
-use Rattle.std.proofs.Common.{◌≡◌, ◌*◌, ◌^◌, ◌≤◌, pos}
-use Rattle.std.specs.Prelude.{nat_abs, ◌*ℤ◌}
-use Rattle.plan_rounds.proofs.bounds.times.Given as goal
-
-abbrev pub invariant-loop-time : goal.invariant-loop-time
-invariant-loop-time l = record {
-  is : l.sum ≡ l.amount.0 *ℤ pos l._time;
-  low : nat_abs l.sum ≤ 2 ^ 63 * l._time;
-}

@@ -1,6 +1,0 @@
-use Rattle.std.proofs.Common.{subst, sym}
-use Rattle.plan_rides.specs.InTime.{IsUsualQuery}
-use Rattle.plan_rounds.proofs.search.Search.last_end.Goals as goal
-
-pub deadline-requires : goal.deadline-requires
-deadline-requires c = record { usual = subst IsUsualQuery (sym c.query.ensures.is) c.query.ensures.usual }

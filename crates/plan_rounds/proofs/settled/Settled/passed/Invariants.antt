@@ -1,7 +1,0 @@
--- It is the last moment, or past it a label so far is as cheap.
-use Rattle.std.proofs.Common.{◌≡◌, ◌⊎◌}
-use Rattle.plan_rounds.specs.Settled.{HasCheaper}
-use Rattle.plan_rounds.proofs.settled.Settled.passed.Given as goal
-
-abbrev pub invariant-loop-other : goal.invariant-loop-other
-invariant-loop-other l = (l.passed ≡ l.fn.last) ⊎ HasCheaper l.self.labels.items l.fn.own l.passed.0

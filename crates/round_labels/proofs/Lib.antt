@@ -1,2 +1,0 @@
-pub mod BagLaws
-pub mod KeptBagLaws
